@@ -1,4 +1,2 @@
-pub mod PieceLaws
-pub mod Directions
 pub mod MarginLaws
 pub mod WayLaws

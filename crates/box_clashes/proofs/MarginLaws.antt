@@ -12,7 +12,7 @@ use Rattle.job_types.specs.declared.job.Side.{Side}
 use Rattle.job_types.specs.declared.job.ZoneLine.{ZoneLine}
 use Rattle.box_clashes.specs.Clashes.{IsPartingMargin, boxes_at}
 use Rattle.path_geometry.specs.declared.motion.Motion.{Motion}
-use Rattle.protection_zones.specs.Pieces.{boxes_in_pieces, motion_at, piece_box}
+use Rattle.zone_stretches.specs.Pieces.{boxes_in_pieces, motion_at, piece_box}
 use Rattle.swept_boxes.specs.declared.Box3.{Box3}
 use Rattle.sync_types.specs.Views.{RunView}
 use Rattle.told_places.specs.declared.place.Place.{Place}

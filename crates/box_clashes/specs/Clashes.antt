@@ -7,7 +7,7 @@ use Rattle.box_reach.specs.Shapes.{HasPoint, common_box, grown_box}
 use Rattle.job_types.specs.Job.{JobView}
 use Rattle.box_clashes.specs.Ways.{IsLeastWay, gives_room}
 use Rattle.box_clashes.specs.declared.clashes.Clash.{Clash}
-use Rattle.protection_zones.specs.Pieces.{boxes_in_pieces, motion_at}
+use Rattle.zone_stretches.specs.Pieces.{boxes_in_pieces, motion_at}
 use Rattle.swept_boxes.specs.declared.Box3.{Box3}
 use Rattle.sync_types.specs.Views.{RunView}
 use Rattle.told_places.specs.declared.place.Meeting.{Meeting}

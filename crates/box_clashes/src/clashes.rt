@@ -5,7 +5,7 @@ ghost use Rattle.box_reach.specs.Shapes.{moved_box};
 ghost use Rattle.job_lines.specs.declared.limits.TheConstants.{DEPTH_LIMIT};
 ghost use Rattle.job_types.specs.SoundJob.{IsSoundJob};
 ghost use Rattle.box_clashes.specs.Clashes as model;
-ghost use Rattle.protection_zones.specs.ZoneBoxes.{IsFit};
+ghost use Rattle.zone_stretches.specs.ZoneBoxes.{IsFit};
 ghost use Rattle.swept_boxes.specs.Boxes.{DoMeet};
 
 use crate::pieces::boxes_at;

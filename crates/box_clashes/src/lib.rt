@@ -2,7 +2,6 @@
 //! MARGIN, or by motions that are halved more often.
 #![tactic(auto)]
 
-mod bounds;
 mod clashes;
 mod pieces;
 mod ways;

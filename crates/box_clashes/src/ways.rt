@@ -5,11 +5,11 @@ ghost use Rattle.box_reach.specs.Reaches.{reach_along};
 ghost use Rattle.box_clashes.specs.Ways as model;
 ghost use Rattle.box_clashes.specs.WaySteps.{IsLeastSoFar, lesser};
 
-use crate::pieces::zone_numbered;
 use box_reach::Way;
 use job_types::{Job, ZoneLine};
 use swept_boxes::Box3;
 use told_places::{Meeting, Place};
+use zone_stretches::zone_numbered;
 
 /// Whether an axis carries a zone in a direction.
 fn is_carried_by(zone: &ZoneLine, direction: usize) -> bool

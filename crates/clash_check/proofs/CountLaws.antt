@@ -9,9 +9,9 @@ use Rattle.clash_check.specs.Counts.{count_of}
 use Rattle.clash_check.specs.PairCounts.{count_sharing, count_in_boxes, count_in_stretches, count_against, count_of_zones, count_in_times}
 use Rattle.job_types.specs.Job.{JobView}
 use Rattle.job_types.specs.declared.job.ZoneLine.{ZoneLine}
-use Rattle.protection_zones.specs.Overlaps.{Order, Pair, ZoneTime, may_overlap, share_channel, share_place, are_compared, box_pairs, stretch_pairs, pairs_of_zones, pairs_by_group, zone_times, compared_pairs}
-use Rattle.protection_zones.specs.Stretches.{StretchView, StretchesView}
-use Rattle.protection_zones.specs.declared.stretches.ZoneBox.{ZoneBox}
+use Rattle.zone_stretches.specs.Overlaps.{Order, Pair, ZoneTime, may_overlap, share_channel, share_place, are_compared, box_pairs, stretch_pairs, pairs_of_zones, pairs_by_group, zone_times, compared_pairs}
+use Rattle.zone_stretches.specs.Stretches.{StretchView, StretchesView}
+use Rattle.zone_stretches.specs.declared.stretches.ZoneBox.{ZoneBox}
 
 -- ---- sums
 

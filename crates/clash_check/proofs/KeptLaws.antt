@@ -10,18 +10,19 @@ use Rattle.clash_check.proofs.FirstLaws.{first_some-past, first_some-drop_more}
 use Rattle.clash_check.proofs.MeetLaws.{far_none}
 use Rattle.clash_check.specs.FirstAnswer.{first_some}
 use Rattle.clash_check.specs.Keeping.{is_near, AreRows}
-use Rattle.clash_check.specs.Meetings.{Case, Names, compared, names_where_met, pieces_touch, place_of}
+use Rattle.clash_check.specs.Meetings.{Names, compared, names_where_met, pieces_touch}
 use Rattle.clash_check.specs.Verdicts.{name_of}
 use Rattle.job_types.specs.Job.{JobView}
 use Rattle.job_types.specs.declared.job.ZoneLine.{ZoneLine}
-use Rattle.protection_zones.specs.Overlaps.{BoxPlace}
-use Rattle.protection_zones.specs.Pieces.{piece_boxes}
-use Rattle.protection_zones.specs.Stretches.{StretchView}
-use Rattle.protection_zones.specs.declared.stretches.ZoneBox.{ZoneBox}
 use Rattle.swept_boxes.specs.Boxes.{boxes_meet}
 use Rattle.swept_boxes.specs.declared.Box3.{Box3}
 use Rattle.sync_types.specs.Views.{RunView}
 use Rattle.sync_types.specs.declared.verdicts.PlaceName.{PlaceName}
+use Rattle.zone_stretches.specs.Cases.{Case, place_of}
+use Rattle.zone_stretches.specs.Overlaps.{BoxPlace}
+use Rattle.zone_stretches.specs.Pieces.{piece_boxes}
+use Rattle.zone_stretches.specs.Stretches.{StretchView}
+use Rattle.zone_stretches.specs.declared.stretches.ZoneBox.{ZoneBox}
 
 -- ---- boxes that are far
 

@@ -1,4 +1,3 @@
-pub mod AscentLaws
 pub mod ChunkLaws
 pub mod CountLaws
 pub mod FirstLaws
@@ -13,4 +12,3 @@ pub mod RunningLaws
 pub mod ShownLaws
 pub mod TimeLaws
 pub mod VerdictLaws
-pub mod WalkLaws

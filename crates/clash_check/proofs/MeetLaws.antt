@@ -7,18 +7,19 @@ use Rattle.box_tree.proofs.HullLaws.{meet_wider, meet_wider_last}
 use Rattle.box_tree.specs.Hulls.{LiesIn}
 use Rattle.clash_check.proofs.FirstLaws.{find-flat_map, find-made, first_some-append, first_some-each, first_some-filter, first_some-map, first_some-none, unless, unless_empty}
 use Rattle.clash_check.specs.FirstAnswer.{first_some}
-use Rattle.clash_check.specs.Meetings.{Names, Case, place_of, touches, compared, names_where_met, first_touched, first_touched_among, first_in_stretches, first_against, first_of_zones, first_in_times}
+use Rattle.clash_check.specs.Meetings.{Names, touches, compared, names_where_met, first_touched, first_touched_among, first_in_stretches, first_against, first_of_zones, first_in_times}
 use Rattle.clash_check.specs.Verdicts.{name_of}
 use Rattle.job_types.specs.Job.{JobView}
 use Rattle.job_types.specs.declared.job.ZoneLine.{ZoneLine}
-use Rattle.protection_zones.specs.InCovers.{IsWithin, IsInCover, AreInCover, IsTimeInCover}
-use Rattle.protection_zones.specs.Overlaps.{BoxPlace, Pair, ZoneTime, may_overlap, share_channel, box_pairs, stretch_pairs, pairs_of_zones, pairs_by_group, zone_times, compared_pairs}
-use Rattle.protection_zones.specs.Pieces.{piece_boxes, pair_meets}
-use Rattle.protection_zones.specs.Stretches.{StretchView, StretchesView}
-use Rattle.protection_zones.specs.declared.stretches.ZoneBox.{ZoneBox}
 use Rattle.swept_boxes.specs.Boxes.{boxes_meet}
 use Rattle.swept_boxes.specs.declared.Box3.{Box3}
 use Rattle.sync_types.specs.Views.{RunView}
+use Rattle.zone_stretches.specs.Cases.{Case, place_of}
+use Rattle.zone_stretches.specs.InCovers.{IsWithin, IsInCover, AreInCover, IsTimeInCover}
+use Rattle.zone_stretches.specs.Overlaps.{BoxPlace, Pair, ZoneTime, may_overlap, share_channel, box_pairs, stretch_pairs, pairs_of_zones, pairs_by_group, zone_times, compared_pairs}
+use Rattle.zone_stretches.specs.Pieces.{piece_boxes, pair_meets}
+use Rattle.zone_stretches.specs.Stretches.{StretchView, StretchesView}
+use Rattle.zone_stretches.specs.declared.stretches.ZoneBox.{ZoneBox}
 
 -- ---- covers first
 

@@ -1,49 +1,31 @@
 -- The stretches of another zone that may overlap one are all that count.
-use Rattle.std.proofs.Common.{◌≡◌, ◌∙◌, ℕ, zero, suc, ◌+◌, ◌<◌, ◌==◌, ◌&&◌, not, Bool, true, false, cond, List, [], ◌∷◌, length, drop, take, get_or, map, Option, None, All, refl, sym, ap, subst, zero-add, arith}
+use Rattle.std.proofs.Common.{◌≡◌, ◌∙◌, ℕ, zero, suc, ◌+◌, ◌<◌, ◌==◌, Bool, true, false, cond, List, [], ◌∷◌, length, drop, take, get_or, map, Option, None, All, refl, sym, ap, subst, zero-add, arith}
 use Rattle.std.specs.Global.{Global}
 use Rattle.std.specs.Prelude.{Vec}
 use Rattle.std.specs.List.{sum_by, zip}
-use Rattle.clash_check.specs.Times.{lists_in}
 use Rattle.std.specs.Option.{option_or}
 use Rattle.std.proofs.lemmas.List.Elements.{All-nil, All-cons, All-head, All-tail}
 use Rattle.std.proofs.lemmas.List.Sums.{sum_by-cons}
-use Rattle.clash_check.proofs.AscentLaws.{part_is}
-use Rattle.clash_check.specs.Ascents.{leading, PassFirst, passes, near, IsTimed}
 use Rattle.clash_check.specs.FirstAnswer.{first_some}
-use Rattle.protection_zones.specs.Told.{IsTold}
-use Rattle.clash_check.specs.Meetings.{Case, Names, first_against, first_in_stretches}
+use Rattle.clash_check.specs.Meetings.{Names, first_against, first_in_stretches}
 use Rattle.clash_check.specs.PairCounts.{count_against, count_in_stretches}
 use Rattle.job_types.specs.Job.{JobView}
 use Rattle.job_types.specs.Zones.{zones_in_order}
 use Rattle.job_types.specs.declared.job.ZoneLine.{ZoneLine}
 use Rattle.order_clocks.specs.Clocked.{ClocksView, moves_in}
 use Rattle.order_clocks.specs.Tells.{is_before_in}
-use Rattle.protection_zones.proofs.NameLaws.{ends_are_lowest_names}
-use Rattle.protection_zones.specs.Overlaps.{Order, ZoneTime, may_overlap, is_open_at, zone_times}
-use Rattle.protection_zones.specs.SoundStretches.{HasLowNames}
-use Rattle.protection_zones.specs.Stretches.{StretchView, StretchesView, all_stretches}
 use Rattle.sync_types.specs.Boards.{Board, first_board}
 use Rattle.sync_types.specs.Views.{RunView}
-
--- ---- stretches that do not overlap
-
-and_none : (a b : Bool) → not b ≡ true → (a && b) ≡ false
-and_none true true on = absurd cc
-and_none false true on = refl
-and_none true false on = refl
-and_none false false on = refl
-
-none_and : (a b : Bool) → not (not a) ≡ false → (a && b) ≡ false
-none_and true b off = absurd cc
-none_and false b off = refl
-
-pub apart_early : (before : Order) (own other : StretchView) → passes before true own other ≡ true → may_overlap before own other ≡ false
-unfolding may_overlap
-apart_early before own other over = and_none (is_open_at before own.last other.first) (is_open_at before other.last own.first) over
-
-pub apart_late : (before : Order) (own other : StretchView) → passes before false own other ≡ false → may_overlap before own other ≡ false
-unfolding may_overlap
-apart_late before own other over = none_and (is_open_at before own.last other.first) (is_open_at before other.last own.first) over
+use Rattle.zone_stretches.proofs.ChainLaws.{part_is}
+use Rattle.zone_stretches.proofs.NameLaws.{ends_are_lowest_names}
+use Rattle.zone_stretches.proofs.NearLaws.{apart_early, apart_late}
+use Rattle.zone_stretches.specs.Ascents.{leading, PassFirst, passes, near, IsTimed}
+use Rattle.zone_stretches.specs.Cases.{Case}
+use Rattle.zone_stretches.specs.Overlaps.{Order, ZoneTime, may_overlap, zone_times}
+use Rattle.zone_stretches.specs.SoundStretches.{HasLowNames}
+use Rattle.zone_stretches.specs.Stretches.{StretchView, StretchesView, all_stretches}
+use Rattle.zone_stretches.specs.Times.{lists_in}
+use Rattle.zone_stretches.specs.Told.{IsTold}
 
 -- ---- counts
 
@@ -118,12 +100,11 @@ low_lists : (job : JobView) (b : Board) (run : RunView) → All (All (HasLowName
 unfolding all_stretches zone_times
 low_lists job b run = of_each_zone (HasLowNames b (moves_in run.entries)) _ (zones_in_order job) (ends_are_lowest_names job b run)
 
-pub timed_by : (job : JobView) (run : RunView) (stretches : StretchesView) (clocks : ClocksView) → IsTold job run stretches clocks → IsTimed (is_before_in clocks.rows) [] stretches.zones
+pub timed_by : (job : JobView) (run : RunView) (stretches : StretchesView) (clocks : ClocksView) → IsTold job run stretches clocks → IsTimed (is_before_in clocks.rows) stretches.zones
 timed_by job run stretches clocks told = record {
   board = first_board told.start;
   moves = moves_in run.entries;
   order = told.order;
-  own_names = All-nil (HasLowNames (first_board told.start) (moves_in run.entries));
   names = subst (λ (s : StretchesView). All (All (HasLowNames (first_board told.start) (moves_in run.entries))) s.zones) (sym told.told) (low_lists job (first_board told.start) run);
 }
 
@@ -139,22 +120,24 @@ part_at P lists place v part within is part_is all =
     subst P (sym part_is) (subst (λ (w : Vec StretchView Global). P w.items) (sym is) (at_place P lists place v within all))
 
 pub timed_own : (before : Order) (lists : List (Vec StretchView Global)) (place : ℕ) (v : Vec StretchView Global) (own : List StretchView) → place < length lists → v ≡ get_or lists place v
-    → own ≡ v.items → IsTimed before [] (lists_in lists) → IsTimed before own (lists_in lists)
+    → own ≡ v.items → IsTimed before (lists_in lists) → IsTimed before (own ∷ lists_in lists)
 timed_own before lists place v own within is own_is timed = record {
   board = timed.board;
   moves = timed.moves;
   order = timed.order;
-  own_names = part_at (All (HasLowNames timed.board timed.moves)) lists place v own within is own_is timed.names;
-  names = timed.names;
+  names = All-cons (All (HasLowNames timed.board timed.moves)) own (lists_in lists) (part_at (All (HasLowNames timed.board timed.moves)) lists place v own within is own_is timed.names) timed.names;
 }
 
 pub timed_other : (before : Order) (own : List StretchView) (lists : List (Vec StretchView Global)) (place : ℕ) (v : Vec StretchView Global) (others : List StretchView) → place < length lists
-    → v ≡ get_or lists place v → others ≡ v.items → IsTimed before own (lists_in lists) → IsTimed before own (others ∷ [])
-timed_other before own lists place v others within is others_is timed = record {
-  board = timed.board;
-  moves = timed.moves;
-  order = timed.order;
-  own_names = timed.own_names;
-  names = All-cons (All (HasLowNames timed.board timed.moves)) others [] (part_at (All (HasLowNames timed.board timed.moves)) lists place v others within is others_is timed.names)
-      (All-nil (All (HasLowNames timed.board timed.moves)));
-}
+    → v ≡ get_or lists place v → others ≡ v.items → IsTimed before (own ∷ lists_in lists) → IsTimed before (own ∷ (others ∷ []))
+timed_other before own lists place v others within is others_is timed =
+    let here : All (HasLowNames timed.board timed.moves) own = All-head (All (HasLowNames timed.board timed.moves)) own (lists_in lists) timed.names in
+    let rest : All (All (HasLowNames timed.board timed.moves)) (lists_in lists) = All-tail (All (HasLowNames timed.board timed.moves)) own (lists_in lists) timed.names in
+    let there : All (HasLowNames timed.board timed.moves) others = part_at (All (HasLowNames timed.board timed.moves)) lists place v others within is others_is rest in
+    record {
+      board = timed.board;
+      moves = timed.moves;
+      order = timed.order;
+      names = All-cons (All (HasLowNames timed.board timed.moves)) own (others ∷ []) here
+          (All-cons (All (HasLowNames timed.board timed.moves)) others [] there (All-nil (All (HasLowNames timed.board timed.moves))));
+    }

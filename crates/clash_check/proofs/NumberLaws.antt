@@ -4,18 +4,18 @@ use Rattle.std.specs.List.{flat_map, sum_by}
 use Rattle.std.specs.Option.{option_map_or}
 use Rattle.std.proofs.lemmas.List.Concat.{flat_map-append}
 use Rattle.clash_check.proofs.CountLaws.{count_zones}
-use Rattle.clash_check.proofs.TimeLaws.{no_times, none_later, time_of, times_at}
 use Rattle.clash_check.specs.Counts.{capped}
 use Rattle.clash_check.specs.NumberSteps.{numbers_from_place, numbers_in_times, numbers_with, numbers_with_place}
 use Rattle.clash_check.specs.PairCounts.{count_against, count_of_zones}
 use Rattle.clash_check.specs.PairNumbers.{number_of, numbers_of, some_number}
-use Rattle.clash_check.specs.Times.{times_from}
 use Rattle.clash_check.specs.declared.numbers.PairNumber.{PairNumber}
 use Rattle.job_types.specs.Job.{JobView}
 use Rattle.job_types.specs.Zones.{zones_in_order}
 use Rattle.job_types.specs.declared.job.ZoneLine.{ZoneLine}
-use Rattle.protection_zones.specs.Overlaps.{Order, ZoneTime, pairs_by_group, pairs_of_zones, zone_times}
-use Rattle.protection_zones.specs.Stretches.{StretchView, StretchesView}
+use Rattle.zone_stretches.proofs.TimeLaws.{no_times, none_later, time_of, times_at}
+use Rattle.zone_stretches.specs.Overlaps.{Order, ZoneTime, pairs_by_group, pairs_of_zones, zone_times}
+use Rattle.zone_stretches.specs.Stretches.{StretchView, StretchesView}
+use Rattle.zone_stretches.specs.Times.{times_from}
 
 -- ---- by groups
 

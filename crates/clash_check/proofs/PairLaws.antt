@@ -4,15 +4,17 @@ use Rattle.std.proofs.lemmas.List.{length-map}
 use Rattle.std.specs.Global.{Global}
 use Rattle.std.specs.Prelude.{Vec}
 use Rattle.clash_check.proofs.FirstLaws.{first_some-append}
-use Rattle.clash_check.proofs.TimeLaws.{first_from_left, first_with_left, no_times_left}
+use Rattle.clash_check.proofs.TimeLaws.{first_from_left, first_with_left}
 use Rattle.clash_check.specs.FirstAnswer.{first_some}
-use Rattle.clash_check.specs.Meetings.{Case, first_from_place, first_in_times, first_of_zones}
-use Rattle.clash_check.specs.Times.{lists_in, times_from}
+use Rattle.clash_check.specs.Meetings.{first_from_place, first_in_times, first_of_zones}
 use Rattle.clash_check.specs.ZonePairs.{first_of_pair, first_of_pairs, pairs_from, pairs_with}
 use Rattle.job_types.specs.Zones.{zones_in_order}
 use Rattle.job_types.specs.declared.job.ZoneLine.{ZoneLine}
-use Rattle.protection_zones.specs.Overlaps.{ZoneTime}
-use Rattle.protection_zones.specs.Stretches.{StretchView}
+use Rattle.zone_stretches.proofs.TimeLaws.{no_times_left}
+use Rattle.zone_stretches.specs.Cases.{Case}
+use Rattle.zone_stretches.specs.Overlaps.{ZoneTime}
+use Rattle.zone_stretches.specs.Stretches.{StretchView}
+use Rattle.zone_stretches.specs.Times.{lists_in, times_from}
 
 module _ (case : Case) (lists : List (List StretchView)) where
   abbrev time_at : ℕ → ZoneLine → ZoneTime

@@ -8,16 +8,17 @@ use Rattle.box_tree.specs.Rows.{IsRowOf}
 use Rattle.clash_check.proofs.KeptLaws.{no_rows}
 use Rattle.clash_check.specs.FirstAnswer.{first_some}
 use Rattle.clash_check.specs.Passing.{ArePassed, IsMemory, meets_none}
-use Rattle.clash_check.specs.Meetings.{Case, Names, compared, names_where_met, place_of, touches}
+use Rattle.clash_check.specs.Meetings.{Names, compared, names_where_met, touches}
+use Rattle.zone_stretches.specs.Cases.{Case, place_of}
 use Rattle.clash_check.specs.Verdicts.{name_of}
 use Rattle.clash_check.specs.declared.nearby.Memory.{Memory}
 use Rattle.job_types.specs.Job.{JobView}
 use Rattle.job_types.specs.declared.job.ZoneLine.{ZoneLine}
 use Rattle.passed_boxes.specs.declared.passed.PassedBox.{PassedBox}
-use Rattle.protection_zones.specs.Overlaps.{BoxPlace}
-use Rattle.protection_zones.specs.Pieces.{motion_at, piece_boxes}
-use Rattle.protection_zones.specs.Stretches.{StretchView}
-use Rattle.protection_zones.specs.declared.stretches.ZoneBox.{ZoneBox}
+use Rattle.zone_stretches.specs.Overlaps.{BoxPlace}
+use Rattle.zone_stretches.specs.Pieces.{motion_at, piece_boxes}
+use Rattle.zone_stretches.specs.Stretches.{StretchView}
+use Rattle.zone_stretches.specs.declared.stretches.ZoneBox.{ZoneBox}
 use Rattle.swept_boxes.specs.declared.Box3.{Box3}
 use Rattle.sync_types.specs.Views.{RunView}
 

@@ -6,16 +6,17 @@ use Rattle.std.specs.Option.{option_or}
 use Rattle.std.proofs.lemmas.Bool.{and_parts, leb-true, leb-false, le-leb, lt-leb}
 use Rattle.std.proofs.lemmas.List.Sums.{length-filter}
 use Rattle.std.proofs.lemmas.List.Elements.{All-nil, All-cons, All-head, All-tail, All-weaker}
-use Rattle.clash_check.proofs.AscentLaws.{part_is}
+use Rattle.zone_stretches.proofs.ChainLaws.{part_is}
 use Rattle.clash_check.proofs.MeetLaws.{far_none}
-use Rattle.clash_check.specs.Ascents.{leading, PassFirst}
+use Rattle.zone_stretches.specs.Ascents.{leading, PassFirst}
 use Rattle.clash_check.specs.FirstAnswer.{first_some}
-use Rattle.clash_check.specs.Meetings.{Case, Names, place_of, names_where_met, first_touched_among}
+use Rattle.clash_check.specs.Meetings.{Names, names_where_met, first_touched_among}
+use Rattle.zone_stretches.specs.Cases.{Case, place_of}
 use Rattle.clash_check.specs.PlaceRanges.{passes_place, is_by_first, do_boxes_ascend}
 use Rattle.job_types.specs.declared.job.ZoneLine.{ZoneLine}
-use Rattle.protection_zones.specs.Overlaps.{BoxPlace, share_place}
-use Rattle.protection_zones.specs.Stretches.{StretchView}
-use Rattle.protection_zones.specs.declared.stretches.ZoneBox.{ZoneBox}
+use Rattle.zone_stretches.specs.Overlaps.{BoxPlace, share_place}
+use Rattle.zone_stretches.specs.Stretches.{StretchView}
+use Rattle.zone_stretches.specs.declared.stretches.ZoneBox.{ZoneBox}
 
 -- a box past the end
 abbrev pub no_box : ZoneBox

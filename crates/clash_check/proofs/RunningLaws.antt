@@ -7,12 +7,13 @@ use Rattle.std.proofs.lemmas.List.{get_or_default}
 use Rattle.std.proofs.lemmas.List.Elements.{All-head, All-tail}
 use Rattle.std.proofs.lemmas.List.Sums.{sum_by-cons, sum_by_more}
 use Rattle.axis_sets.specs.declared.limits.TheConstants.{CHANNEL_PLACES}
-use Rattle.clash_check.proofs.NearLaws.{apart_early, apart_late, sum_skips}
-use Rattle.clash_check.specs.Ascents.{leading, PassFirst, passes}
+use Rattle.clash_check.proofs.NearLaws.{sum_skips}
 use Rattle.clash_check.specs.PairCounts.{count_against, count_in_stretches, count_in_boxes, count_sharing}
 use Rattle.clash_check.specs.Running.{boxes_in, IsSum, has_boxes_of, IsLatest}
-use Rattle.protection_zones.specs.Overlaps.{Order, is_open_at, may_overlap, share_channel}
-use Rattle.protection_zones.specs.Stretches.{StretchView}
+use Rattle.zone_stretches.proofs.NearLaws.{apart_early, apart_late}
+use Rattle.zone_stretches.specs.Ascents.{leading, PassFirst, passes}
+use Rattle.zone_stretches.specs.Overlaps.{Order, is_open_at, may_overlap, share_channel}
+use Rattle.zone_stretches.specs.Stretches.{StretchView}
 
 -- ---- sums
 

@@ -1,12 +1,13 @@
 -- Stretches with no boxes give no answer, so those with boxes may be looked at alone.
 use Rattle.std.proofs.Common.{◌≡◌, ◌∙◌, ℕ, zero, suc, ◌+◌, ◌<◌, ◌≤◌, Bool, true, false, cond, List, [], ◌∷◌, drop, take, length, get_or, Option, None, refl, sym, ap, arith}
 use Rattle.std.specs.Option.{option_or}
-use Rattle.clash_check.specs.Ascents.{leading}
 use Rattle.clash_check.specs.FirstAnswer.{first_some}
-use Rattle.clash_check.specs.Meetings.{Case, Names, first_in_stretches}
+use Rattle.clash_check.specs.Meetings.{Names, first_in_stretches}
 use Rattle.clash_check.specs.Shown.{is_bare, next_shown}
 use Rattle.job_types.specs.declared.job.ZoneLine.{ZoneLine}
-use Rattle.protection_zones.specs.Stretches.{StretchView}
+use Rattle.zone_stretches.specs.Ascents.{leading}
+use Rattle.zone_stretches.specs.Cases.{Case}
+use Rattle.zone_stretches.specs.Stretches.{StretchView}
 
 -- ---- the next place
 

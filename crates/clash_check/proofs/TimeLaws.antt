@@ -1,63 +1,19 @@
--- The zones of a job with their stretches, one by one.
-use Rattle.std.proofs.Common.{◌≡◌, ◌∙◌, ℕ, zero, suc, ◌+◌, ◌<◌, ◌≤◌, ◌^◌, ◌-◌, List, [], ◌∷◌, drop, length, get_or, slice_get, Option, None, Some, option_and_then, min, refl, sym, ap, zero-add, arith}
-use Rattle.std.specs.Global.{Global}
+-- What is counted and what is found first in the zones of a job, one by one.
+use Rattle.std.proofs.Common.{◌≡◌, ◌∙◌, ℕ, zero, suc, ◌+◌, ◌<◌, ◌≤◌, ◌^◌, ◌-◌, List, [], ◌∷◌, drop, length, slice_get, Option, None, Some, option_and_then, min, refl, sym, ap, zero-add, arith}
 use Rattle.std.specs.List.{sum_by}
-use Rattle.std.specs.Prelude.{Vec}
-use Rattle.std.proofs.lemmas.List.{length-map}
 use Rattle.std.specs.Option.{option_map_or, option_or}
 use Rattle.std.proofs.lemmas.List.Sums.{sum_by-cons}
 use Rattle.clash_check.specs.FirstAnswer.{first_some}
-use Rattle.clash_check.specs.Meetings.{Case, first_of_zones, first_in_times, first_with_place, first_from_place}
+use Rattle.clash_check.specs.Meetings.{first_of_zones, first_in_times, first_with_place, first_from_place}
 use Rattle.clash_check.specs.PairCounts.{capped, count_of_zones, count_in_times, count_with_place, count_from_place}
-use Rattle.clash_check.specs.Times.{lists_in, times_in, times_from}
 use Rattle.job_types.specs.Job.{JobView}
 use Rattle.job_types.specs.Zones.{zones_in_order}
 use Rattle.job_types.specs.declared.job.ZoneLine.{ZoneLine}
-use Rattle.protection_zones.specs.Overlaps.{Order, ZoneTime}
-use Rattle.protection_zones.specs.Stretches.{StretchView}
-
-abbrev pub time_of : List (List StretchView) → ℕ → ZoneLine → ZoneTime
-time_of lists place zone = record { zone = zone; stretches = get_or lists place [] }
-
--- the zones from a place on: that of the place, if there is one, and those from the next
-pub times_at : (zones : List ZoneLine) (lists : List (List StretchView)) (place : ℕ) (zone : ZoneLine) → place < length lists → slice_get zones place ≡ Some zone
-    → times_in (drop place zones) (drop place lists) ≡ time_of lists place zone ∷ times_in (drop (suc place) zones) (drop (suc place) lists)
-times_at [] lists place zone within found = absurd cc
-times_at (z ∷ zones) [] place zone within found = absurd (omega arith)
-times_at (z ∷ zones) (l ∷ lists) zero zone within found = let same : z ≡ zone = cc in rw same refl
-times_at (z ∷ zones) (l ∷ lists) (suc place) zone within found = times_at zones lists place zone (omega arith) found
-
-pub no_times : (zones : List ZoneLine) (lists : List (List StretchView)) (place : ℕ) → slice_get zones place ≡ None → times_in (drop place zones) lists ≡ []
-no_times [] lists place none = by_lists lists place
-  where
-    by_lists : (lists : List (List StretchView)) (place : ℕ) → times_in (drop place []) lists ≡ []
-    by_lists lists zero = refl
-    by_lists lists (suc place) = refl
-no_times (z ∷ zones) lists zero none = absurd cc
-no_times (z ∷ zones) lists (suc place) none = no_times zones lists place none
-
-pub none_later : (zones : List ZoneLine) (place : ℕ) → slice_get zones place ≡ None → slice_get zones (suc place) ≡ None
-none_later [] place none = refl
-none_later (z ∷ zones) zero none = absurd cc
-none_later (z ∷ zones) (suc place) none = none_later zones place none
-
-past_all : (zones : List ZoneLine) (lists : List (List StretchView)) (place : ℕ) → length lists ≤ place → times_in (drop place zones) (drop place lists) ≡ []
-past_all zones [] zero far = by_zones zones
-  where
-    by_zones : (zones : List ZoneLine) → times_in zones [] ≡ []
-    by_zones [] = refl
-    by_zones (z ∷ zones) = refl
-past_all zones [] (suc place) far = by_zones (drop (suc place) zones)
-  where
-    by_zones : (zones : List ZoneLine) → times_in zones [] ≡ []
-    by_zones [] = refl
-    by_zones (z ∷ zones) = refl
-past_all zones (l ∷ lists) zero far = absurd (omega arith)
-past_all [] (l ∷ lists) (suc place) far = refl
-past_all (z ∷ zones) (l ∷ lists) (suc place) far = past_all zones lists place (omega arith)
-
-pub no_times_left : (job : JobView) (lists : List (List StretchView)) (place : ℕ) → length lists ≤ place → times_from job lists place ≡ []
-no_times_left job lists place far = past_all (zones_in_order job) lists place far
+use Rattle.zone_stretches.proofs.TimeLaws.{no_times, none_later, time_of, times_at}
+use Rattle.zone_stretches.specs.Cases.{Case}
+use Rattle.zone_stretches.specs.Overlaps.{Order, ZoneTime}
+use Rattle.zone_stretches.specs.Stretches.{StretchView}
+use Rattle.zone_stretches.specs.Times.{times_from}
 
 -- ---- counts
 
@@ -79,12 +35,6 @@ sum_past f [] zero far = refl
 sum_past f [] (suc i) far = refl
 sum_past f (x ∷ xs) zero far = absurd (omega arith)
 sum_past f (x ∷ xs) (suc i) far = sum_past f xs i (omega arith)
-
-pub within_lists : (lists : List (Vec StretchView Global)) (place : ℕ) → place < length lists → place < length (lists_in lists)
-within_lists lists place within = rw (length-map lists (λ (s : Vec StretchView Global). s.items)) within
-
-pub past_lists : (lists : List (Vec StretchView Global)) (place : ℕ) → length lists ≤ place → length (lists_in lists) ≤ place
-past_lists lists place far = rw (length-map lists (λ (s : Vec StretchView Global). s.items)) far
 
 pub counted_with_place : (before : Order) (one : ZoneTime) (job : JobView) (lists : List (List StretchView)) (place next : ℕ) → next ≡ place + 1 → place < length lists
     → sum_by (count_of_zones before one) (times_from job lists place) ≡ count_with_place before one job lists place + sum_by (count_of_zones before one) (times_from job lists next)

@@ -6,19 +6,19 @@ use Rattle.std.specs.List.{All}
 use Rattle.clash_check.proofs.MeetLaws.{names_of, meetings_are}
 use Rattle.clash_check.specs.Counts.{count_of}
 use Rattle.clash_check.specs.FirstAnswer.{first_some}
-use Rattle.protection_zones.specs.Told.{IsTold}
+use Rattle.zone_stretches.specs.Told.{IsTold}
 use Rattle.clash_check.specs.Meetings.{first_in_times, verdict_by_names}
 use Rattle.clash_check.specs.Verdicts.{alarm_by, budget_verdict, meeting_verdict, no_by, or_else, race_verdict, stops_of, stuck_by, verdict_by}
 use Rattle.job_types.specs.Job.{JobView}
 use Rattle.order_clocks.specs.Clocked.{ClocksView}
-use Rattle.protection_zones.proofs.BoxCounts.{pairs_are_few}
-use Rattle.protection_zones.proofs.PiecesInCovers.{times_in_cover}
-use Rattle.protection_zones.specs.InCovers.{IsTimeInCover}
-use Rattle.protection_zones.specs.SoundStretches.{IsOfSize}
-use Rattle.protection_zones.specs.Overlaps.{Order, Pair, compared_pairs, zone_times}
-use Rattle.protection_zones.specs.Pieces.{pair_meets}
-use Rattle.protection_zones.specs.Stretches.{StretchesView}
-use Rattle.protection_zones.specs.ZoneBoxes.{IsFit}
+use Rattle.zone_stretches.proofs.BoxCounts.{pairs_are_few}
+use Rattle.zone_stretches.proofs.PiecesInCovers.{times_in_cover}
+use Rattle.zone_stretches.specs.InCovers.{IsTimeInCover}
+use Rattle.zone_stretches.specs.SoundStretches.{IsOfSize}
+use Rattle.zone_stretches.specs.Overlaps.{Order, Pair, compared_pairs, zone_times}
+use Rattle.zone_stretches.specs.Pieces.{pair_meets}
+use Rattle.zone_stretches.specs.Stretches.{StretchesView}
+use Rattle.zone_stretches.specs.ZoneBoxes.{IsFit}
 use Rattle.sync_types.specs.Boards.{first_board}
 use Rattle.sync_types.specs.Views.{RunView}
 use Rattle.sync_types.specs.declared.verdicts.Verdict.{Verdict}

@@ -1,16 +1,17 @@
 -- Steps. What is kept of the boxes of a stretch while those of another are held against them.
 use Rattle.std.specs.Prelude.{ℕ, ◌<◌, ◌&&◌, Bool, List, Option, length, map, slice_index_or}
 use Rattle.box_tree.specs.Rows.{IsRowOf, row_of}
-use Rattle.clash_check.specs.Meetings.{compared, place_of}
+use Rattle.clash_check.specs.Meetings.{compared}
 use Rattle.clash_check.specs.declared.nearby.Kept.{Kept}
 use Rattle.job_types.specs.Job.{JobView}
 use Rattle.job_types.specs.declared.job.ZoneLine.{ZoneLine}
-use Rattle.protection_zones.specs.Pieces.{piece_boxes}
-use Rattle.protection_zones.specs.Stretches.{StretchView}
-use Rattle.protection_zones.specs.declared.stretches.ZoneBox.{ZoneBox}
 use Rattle.swept_boxes.specs.Boxes.{boxes_meet}
 use Rattle.swept_boxes.specs.declared.Box3.{Box3}
 use Rattle.sync_types.specs.Views.{RunView}
+use Rattle.zone_stretches.specs.Cases.{place_of}
+use Rattle.zone_stretches.specs.Pieces.{piece_boxes}
+use Rattle.zone_stretches.specs.Stretches.{StretchView}
+use Rattle.zone_stretches.specs.declared.stretches.ZoneBox.{ZoneBox}
 
 -- a box is compared with this one, and their covers meet
 abbrev pub is_near : Bool → ZoneBox → ZoneBox → Bool

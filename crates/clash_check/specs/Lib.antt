@@ -1,4 +1,3 @@
-pub mod Ascents
 pub mod Chunks
 pub mod Counts
 pub mod FirstAnswer
@@ -12,6 +11,5 @@ pub mod PlaceRanges
 pub mod PlainBoxes
 pub mod Running
 pub mod Shown
-pub mod Times
 pub mod Verdicts
 pub mod ZonePairs

@@ -3,33 +3,23 @@ use Rattle.std.specs.Prelude.{ℕ, ◌+◌, ◌==◌, ◌&&◌, ◌||◌, not, B
 use Rattle.std.specs.List.{list_any}
 use Rattle.std.specs.Option.{option_or}
 use Rattle.clash_check.specs.FirstAnswer.{first_some}
-use Rattle.clash_check.specs.Times.{times_from}
 use Rattle.clash_check.specs.Verdicts.{name_of}
-use Rattle.job_types.specs.Job.{JobView}
 use Rattle.job_types.specs.Zones.{zones_in_order}
 use Rattle.job_types.specs.declared.job.ZoneLine.{ZoneLine}
-use Rattle.protection_zones.specs.Overlaps.{Order, BoxPlace, ZoneTime, may_overlap, share_channel, share_place}
-use Rattle.protection_zones.specs.Pieces.{piece_boxes}
-use Rattle.protection_zones.specs.Stretches.{StretchView}
-use Rattle.protection_zones.specs.declared.stretches.ZoneBox.{ZoneBox}
 use Rattle.swept_boxes.specs.Boxes.{boxes_meet}
 use Rattle.swept_boxes.specs.declared.Box3.{Box3}
-use Rattle.sync_types.specs.Views.{RunView}
 use Rattle.sync_types.specs.declared.verdicts.PlaceName.{PlaceName}
 use Rattle.sync_types.specs.declared.verdicts.Verdict.{Verdict}
 use Rattle.sync_types.specs.declared.verdicts.Verdict.TheVariants as verdicts
+use Rattle.zone_stretches.specs.Cases.{Case, place_of}
+use Rattle.zone_stretches.specs.Overlaps.{BoxPlace, ZoneTime, may_overlap, share_channel, share_place}
+use Rattle.zone_stretches.specs.Pieces.{piece_boxes}
+use Rattle.zone_stretches.specs.Stretches.{StretchView}
+use Rattle.zone_stretches.specs.Times.{times_from}
+use Rattle.zone_stretches.specs.declared.stretches.ZoneBox.{ZoneBox}
 
 abbrev pub Names : Type 0
 Names = PlaceName × PlaceName
-
--- a job, a run of it, and the order of its events
-pub record Case : Type 0 where
-  pub job : JobView
-  pub run : RunView
-  pub before : Order
-
-abbrev pub place_of : ZoneLine → StretchView → ZoneBox → BoxPlace
-place_of zone stretch box = record { zone = zone; stretch = stretch; box = box }
 
 -- boxes meet boxes in a cover: the cover first
 abbrev pub pieces_touch : List Box3 → Box3 → List Box3 → Bool

@@ -5,12 +5,12 @@ use Rattle.std.specs.Option.{option_map_or}
 use Rattle.clash_check.specs.Counts.{capped}
 use Rattle.clash_check.specs.PairCounts.{count_of_zones}
 use Rattle.clash_check.specs.PairNumbers.{some_number}
-use Rattle.clash_check.specs.Times.{times_from}
 use Rattle.clash_check.specs.declared.numbers.PairNumber.{PairNumber}
 use Rattle.job_types.specs.Job.{JobView}
 use Rattle.job_types.specs.Zones.{zones_in_order}
-use Rattle.protection_zones.specs.Overlaps.{Order, ZoneTime}
-use Rattle.protection_zones.specs.Stretches.{StretchView}
+use Rattle.zone_stretches.specs.Overlaps.{Order, ZoneTime}
+use Rattle.zone_stretches.specs.Stretches.{StretchView}
+use Rattle.zone_stretches.specs.Times.{times_from}
 
 -- the row of two zones, if there is one
 unfoldable pub numbers_with : Order → ZoneTime → ZoneTime → List PairNumber

@@ -3,12 +3,12 @@ use Rattle.std.specs.Prelude.{ℕ, ◌+◌, ◌*◌, ◌==◌, if◌then◌else�
 use Rattle.std.specs.List.{count_by}
 use Rattle.std.specs.Option.{option_map_or}
 pub use Rattle.clash_check.specs.Counts.{capped}
-use Rattle.clash_check.specs.Times.{times_from}
 use Rattle.job_types.specs.Job.{JobView}
 use Rattle.job_types.specs.Zones.{zones_in_order}
-use Rattle.protection_zones.specs.Overlaps.{Order, ZoneTime, may_overlap, share_channel, share_place}
-use Rattle.protection_zones.specs.Stretches.{StretchView}
-use Rattle.protection_zones.specs.declared.stretches.ZoneBox.{ZoneBox}
+use Rattle.zone_stretches.specs.Overlaps.{Order, ZoneTime, may_overlap, share_channel, share_place}
+use Rattle.zone_stretches.specs.Stretches.{StretchView}
+use Rattle.zone_stretches.specs.Times.{times_from}
+use Rattle.zone_stretches.specs.declared.stretches.ZoneBox.{ZoneBox}
 
 -- the pairs of boxes with a place in common
 unfoldable pub count_sharing : List ZoneBox → List ZoneBox → ℕ

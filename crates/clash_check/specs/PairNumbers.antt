@@ -6,8 +6,8 @@ use Rattle.std.specs.Ordering.{nat_cmp}
 use Rattle.clash_check.specs.Counts.{capped}
 use Rattle.clash_check.specs.declared.numbers.PairNumber.{PairNumber}
 use Rattle.job_types.specs.Job.{JobView}
-use Rattle.protection_zones.specs.Overlaps.{Order, ZoneTime, pairs_by_group, pairs_of_zones, zone_times}
-use Rattle.protection_zones.specs.Stretches.{StretchesView}
+use Rattle.zone_stretches.specs.Overlaps.{Order, ZoneTime, pairs_by_group, pairs_of_zones, zone_times}
+use Rattle.zone_stretches.specs.Stretches.{StretchesView}
 
 -- how many of two zones
 unfoldable pub number_of : Order → ZoneTime × ZoneTime → PairNumber

@@ -2,17 +2,18 @@
 use Rattle.std.specs.Prelude.{◌≡◌, ℕ, ◌<◌, not, Bool, true, All, List, Option, length, slice_index_or}
 use Rattle.std.specs.List.{list_all}
 use Rattle.clash_check.specs.Keeping.{IsKeptOf}
-use Rattle.clash_check.specs.Meetings.{place_of, touches}
+use Rattle.clash_check.specs.Meetings.{touches}
 use Rattle.clash_check.specs.declared.nearby.Memory.{Memory}
 use Rattle.job_types.specs.Job.{JobView}
 use Rattle.job_types.specs.declared.job.ZoneLine.{ZoneLine}
 use Rattle.passed_boxes.specs.declared.passed.PassedBox.{PassedBox}
 use Rattle.path_geometry.specs.declared.motion.Motion.{Motion}
-use Rattle.protection_zones.specs.Pieces.{boxes_in_pieces, piece_boxes}
-use Rattle.protection_zones.specs.Stretches.{StretchView}
-use Rattle.protection_zones.specs.declared.stretches.ZoneBox.{ZoneBox}
 use Rattle.swept_boxes.specs.declared.Box3.{Box3}
 use Rattle.sync_types.specs.Views.{RunView}
+use Rattle.zone_stretches.specs.Cases.{place_of}
+use Rattle.zone_stretches.specs.Pieces.{boxes_in_pieces, piece_boxes}
+use Rattle.zone_stretches.specs.Stretches.{StretchView}
+use Rattle.zone_stretches.specs.declared.stretches.ZoneBox.{ZoneBox}
 
 -- a box of a zone, in a motion or standing, meets none of these boxes of a stretch of another
 unfoldable pub meets_none : JobView → RunView → ZoneLine → ZoneLine → StretchView → List ZoneBox → Box3 → Option Motion → Bool

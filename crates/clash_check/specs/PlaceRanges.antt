@@ -1,6 +1,6 @@
 -- Steps. Boxes of a stretch that begin and end one after another, and those of them that hold a place in common with a box.
 use Rattle.std.specs.Prelude.{◌&&◌, not, nat_le, Bool, true, false, List, [], ◌∷◌}
-use Rattle.protection_zones.specs.declared.stretches.ZoneBox.{ZoneBox}
+use Rattle.zone_stretches.specs.declared.stretches.ZoneBox.{ZoneBox}
 
 -- a box ends before this one begins, or begins before this one has ended
 abbrev pub passes_place : Bool → ZoneBox → ZoneBox → Bool

@@ -3,7 +3,7 @@ use Rattle.std.specs.Prelude.{◌≡◌, ℕ, ◌<◌, ◌==◌, ◌&&◌, not, 
 use Rattle.axis_sets.specs.declared.limits.TheConstants.{CHANNEL_PLACES}
 use Rattle.job_types.specs.Axes.{is_of}
 use Rattle.clash_check.specs.PairCounts.{capped}
-use Rattle.protection_zones.specs.Stretches.{StretchView}
+use Rattle.zone_stretches.specs.Stretches.{StretchView}
 
 -- how many boxes stretches have
 abbrev pub boxes_in : List StretchView → ℕ

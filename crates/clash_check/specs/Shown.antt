@@ -1,7 +1,7 @@
 -- Steps. Of the stretches of a zone those with boxes, one after another.
 use Rattle.std.specs.Prelude.{◌≡◌, ℕ, ◌+◌, ◌≤◌, ◌==◌, Bool, List, drop, length, slice_index}
-use Rattle.clash_check.specs.Ascents.{leading}
-use Rattle.protection_zones.specs.Stretches.{StretchView}
+use Rattle.zone_stretches.specs.Ascents.{leading}
+use Rattle.zone_stretches.specs.Stretches.{StretchView}
 
 -- a stretch with no boxes
 abbrev pub is_bare : StretchView → Bool

@@ -2,10 +2,10 @@
 use Rattle.std.specs.Prelude.{nat_lt, if◌then◌else◌, find, Option, None, Some}
 use Rattle.clash_check.specs.Counts.{count_of}
 use Rattle.job_types.specs.Job.{JobView}
-use Rattle.protection_zones.specs.Overlaps.{Order, BoxPlace, Pair, compared_pairs}
-use Rattle.protection_zones.specs.Pieces.{pair_meets}
-use Rattle.protection_zones.specs.Stretches.{StretchesView}
 use Rattle.stop_verdicts.specs.FirstAnswer.{first_some}
+use Rattle.zone_stretches.specs.Overlaps.{Order, BoxPlace, Pair, compared_pairs}
+use Rattle.zone_stretches.specs.Pieces.{pair_meets}
+use Rattle.zone_stretches.specs.Stretches.{StretchesView}
 pub use Rattle.stop_verdicts.specs.Stops.{alarm_by, has_channel, or_else, race_verdict, stops_of, stuck_by}
 use Rattle.sync_types.specs.Views.{RunView}
 use Rattle.sync_types.specs.declared.runs.Race.{Race}

@@ -2,9 +2,10 @@
 use Rattle.std.specs.Prelude.{ℕ, zero, suc, ◌+◌, List, [], ◌∷◌, ◌++◌, slice_get, slice_index_or, Option}
 use Rattle.std.specs.Option.{option_and_then}
 use Rattle.clash_check.specs.FirstAnswer.{first_some}
-use Rattle.clash_check.specs.Meetings.{Case, Names, first_with_place}
+use Rattle.clash_check.specs.Meetings.{Names, first_with_place}
 use Rattle.job_types.specs.Zones.{zones_in_order}
-use Rattle.protection_zones.specs.Stretches.{StretchView}
+use Rattle.zone_stretches.specs.Cases.{Case}
+use Rattle.zone_stretches.specs.Stretches.{StretchView}
 
 -- a zone with so many others that stand one after another
 abbrev pub pairs_with : ℕ → ℕ → ℕ → List (ℕ × ℕ)

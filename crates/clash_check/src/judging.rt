@@ -2,28 +2,27 @@
 ghost use Rattle.std.specs.Prelude.{◌≡◌, ◌<◌, ◌≤◌, ◌^◌, All, IfOk, length, sum_by};
 ghost use Rattle.axis_sets.specs.declared.limits.TheConstants.{CHANNEL_LIMIT};
 ghost use Rattle.clash_check.specs.FirstAnswer.{first_some};
-ghost use Rattle.protection_zones.specs.Told.{IsTold};
 ghost use Rattle.clash_check.specs.Meetings.{verdict_by_names};
 ghost use Rattle.clash_check.specs.Verdicts as model;
 ghost use Rattle.job_types.specs.SoundJob.{IsSoundJob};
 ghost use Rattle.order_clocks.specs.Tells.{is_before_in};
-ghost use Rattle.protection_zones.specs.ZoneBoxes.{IsFit};
 ghost use Rattle.sync_types.specs.declared.verdicts.Verdict.{Verdict};
+ghost use Rattle.zone_stretches.specs.Told.{IsTold};
+ghost use Rattle.zone_stretches.specs.ZoneBoxes.{IsFit};
 
-use crate::ascents::ascents_of;
 use crate::meetings::Scene;
 use crate::nearby::KEPT_LIMIT;
 use crate::pair_counts::count;
 use crate::sharing::first_by_threads;
-use crate::zone_pairs::{first_of_pairs, lists_of, zone_pairs};
+use crate::zone_pairs::{first_of_pairs, zone_pairs};
 use job_types::Job;
 use order_clocks::Clocks;
 use out_of_memory::NoMemory;
-use protection_zones::Stretches;
 use std::alloc::Global;
 use std::thread::Threads;
 use stop_verdicts::stopped_verdict;
 use sync_types::{Entry, PlaceName, Run, Verdict};
+use zone_stretches::{Stretches, ascents_of, lists_of};
 
 /// How many channels go on in a step: at most as many as there may be.
 fn goes_in(entry: &Entry) -> usize

@@ -1,12 +1,10 @@
 //! The verdict on a run of a job: whether two of its zones may meet, and the first two boxes that do.
 #![tactic(auto)]
 
-mod ascents;
 mod judging;
 mod meetings;
 mod nearby;
 mod numbers;
-mod overlaps;
 mod pair_counts;
 mod place_ranges;
 mod running;

@@ -1,8 +1,6 @@
 //! The first two boxes that meet, of zones that may not.
 ghost use Rattle.std.specs.Prelude.{◌≡◌, ◌≤◌, ◌<◌, true, [], ◌∷◌, All, drop, length, slice_index_or, take};
 ghost use Rattle.std.specs.List.{list_any};
-ghost use Rattle.clash_check.specs.Ascents as ascents;
-ghost use Rattle.clash_check.specs.Ascents.{IsTimed};
 ghost use Rattle.clash_check.specs.FirstAnswer.{first_some};
 ghost use Rattle.clash_check.specs.Keeping.{IsKeptOf, is_near};
 ghost use Rattle.clash_check.specs.Meetings as model;
@@ -12,23 +10,27 @@ ghost use Rattle.clash_check.specs.Shown.{IsNext};
 ghost use Rattle.clash_check.specs.Verdicts.{name_of};
 ghost use Rattle.job_lines.specs.declared.limits.TheConstants.{DEPTH_LIMIT};
 ghost use Rattle.order_clocks.specs.Tells.{is_before_in};
-ghost use Rattle.protection_zones.specs.Pieces.{piece_boxes};
-ghost use Rattle.protection_zones.specs.ZoneBoxes.{IsFit};
-ghost use Rattle.protection_zones.specs.declared.stretches.ZoneBox.{ZoneBox};
 ghost use Rattle.swept_boxes.specs.Boxes.{boxes_meet};
+ghost use Rattle.zone_stretches.specs.Ascents as ascents;
+ghost use Rattle.zone_stretches.specs.Ascents.{IsTimed};
+ghost use Rattle.zone_stretches.specs.Cases.{place_of};
+ghost use Rattle.zone_stretches.specs.Pieces.{piece_boxes};
+ghost use Rattle.zone_stretches.specs.ZoneBoxes.{IsFit};
+ghost use Rattle.zone_stretches.specs.declared.stretches.ZoneBox.{ZoneBox};
 
-use crate::ascents::{Range, part, range_of, start_walk};
 use crate::nearby::{Kept, Memory, TREE_OTHERS, kept_for, new_memory, next_near, renew};
-use crate::overlaps::{may_overlap, share_channel};
 use crate::place_ranges::{do_boxes_ascend, place_range};
 use crate::shown::next_shown;
 use box_tree::PieceTree;
 use job_types::{Job, ZoneLine};
 use order_clocks::Clocks;
 use passed_boxes::PassedBoxes;
-use protection_zones::{Stretch, ZoneBox, boxes_by_pieces, motion_at};
 use std::alloc::Global;
 use sync_types::{PlaceName, Run};
+use zone_stretches::{
+    Range, Stretch, ZoneBox, boxes_by_pieces, may_overlap, motion_at, part, range_of,
+    share_channel, start_walk,
+};
 
 /// A job with a run of it and the order of its events.
 #[derive(Clone, Copy)]
@@ -58,7 +60,7 @@ pub(crate) struct Held<'a> {
 /// How a box of a stretch is named.
 #[tactic(auto, unfolding(crate::specs::Verdicts::name_of))]
 fn named(held: &Held, own: &ZoneBox) -> PlaceName
-    ensures { result ≡ name_of (model.place_of held.now.zone.now held.now.stretch.now own.now) }
+    ensures { result ≡ name_of (place_of held.now.zone.now held.now.stretch.now own.now) }
 {
     let stretch = held.stretch;
     PlaceName {
@@ -82,7 +84,7 @@ fn meets_made(
         held.now.stretch.now boxes.now kept.old }
     ensures met { (d : ZoneBox) → result ≡ list_any
         (λ piece. list_any (boxes_meet piece) (piece_boxes scene.now.job.now scene.now.run.now
-        (model.place_of held.now.zone.now held.now.stretch.now (slice_index_or boxes.now place d)))) pieces.now }
+        (place_of held.now.zone.now held.now.stretch.now (slice_index_or boxes.now place d)))) pieces.now }
     ensures kept { IsKeptOf scene.now.job.now scene.now.run.now held.now.zone.now
         held.now.stretch.now boxes.now kept.new }
 {
@@ -109,7 +111,7 @@ fn pieces_touch(
         held.now.stretch.now boxes.now kept.old }
     ensures met { (d : ZoneBox) → result ≡ model.pieces_touch pieces.now (slice_index_or boxes.now place d).cover
         (piece_boxes scene.now.job.now scene.now.run.now
-        (model.place_of held.now.zone.now held.now.stretch.now (slice_index_or boxes.now place d))) }
+        (place_of held.now.zone.now held.now.stretch.now (slice_index_or boxes.now place d))) }
     ensures kept { IsKeptOf scene.now.job.now scene.now.run.now held.now.zone.now
         held.now.stretch.now boxes.now kept.new }
 {
@@ -138,7 +140,7 @@ fn first_by_pieces(
 ) -> Option<(PlaceName, PlaceName)>
     requires fit { All (All IsFit) scene.now.run.now.items }
     requires pieces { pieces.now ≡ piece_boxes scene.now.job.now scene.now.run.now
-        (model.place_of left.now.zone.now left.now.stretch.now own.now) }
+        (place_of left.now.zone.now left.now.stretch.now own.now) }
     requires from { from ≤ length boxes.now }
     requires near { (d : ZoneBox) → from < length boxes.now
         → is_near shared own.now (slice_index_or boxes.now from d) ≡ true }
@@ -150,8 +152,8 @@ fn first_by_pieces(
           run = scene.now.run.now;
           before = is_before_in scene.now.clocks.now.rows;
         }) shared
-        (model.place_of left.now.zone.now left.now.stretch.now own.now)
-        (model.place_of right.now.zone.now right.now.stretch.now later)) (drop from boxes.now) }
+        (place_of left.now.zone.now left.now.stretch.now own.now)
+        (place_of right.now.zone.now right.now.stretch.now later)) (drop from boxes.now) }
     ensures kept { IsKeptOf scene.now.job.now scene.now.run.now right.now.zone.now
         right.now.stretch.now boxes.now kept.new }
 {
@@ -189,8 +191,8 @@ fn first_from(
           run = scene.now.run.now;
           before = is_before_in scene.now.clocks.now.rows;
         }) shared
-        (model.place_of left.now.zone.now left.now.stretch.now own.now)
-        (model.place_of right.now.zone.now right.now.stretch.now later)) (drop from boxes.now) }
+        (place_of left.now.zone.now left.now.stretch.now own.now)
+        (place_of right.now.zone.now right.now.stretch.now later)) (drop from boxes.now) }
     ensures kept { IsKeptOf scene.now.job.now scene.now.run.now right.now.zone.now
         right.now.stretch.now boxes.now kept.new }
 {
@@ -219,7 +221,7 @@ fn first_touched(
         right.now.stretch.now boxes.now kept.old }
     ensures names { result ≡ model.first_touched_among
         (record { job = scene.now.job.now; run = scene.now.run.now; before = is_before_in scene.now.clocks.now.rows })
-        shared (model.place_of left.now.zone.now left.now.stretch.now own.now) right.now.zone.now
+        shared (place_of left.now.zone.now left.now.stretch.now own.now) right.now.zone.now
         right.now.stretch.now boxes.now }
     ensures kept { IsKeptOf scene.now.job.now scene.now.run.now right.now.zone.now
         right.now.stretch.now boxes.now kept.new }
@@ -261,7 +263,7 @@ fn first_in_all_boxes(
           run = scene.now.run.now;
           before = is_before_in scene.now.clocks.now.rows;
         }) shared
-        (model.place_of left.now.zone.now left.now.stretch.now own) right.now.zone.now
+        (place_of left.now.zone.now left.now.stretch.now own) right.now.zone.now
         right.now.stretch.now) left.now.stretch.now.boxes }
     ensures place { memory.new.place ≡ place }
     ensures memory { IsMemory scene.now.job.now scene.now.run.now left.now.zone.now right.now.zone.now
@@ -307,7 +309,7 @@ fn first_in_places(
     requires ascend { places.do_boxes_ascend others.now ≡ true }
     ensures { result ≡ first_some (λ own. model.first_touched_among
         (record { job = scene.now.job.now; run = scene.now.run.now; before = is_before_in scene.now.clocks.now.rows })
-        true (model.place_of left.now.zone.now left.now.stretch.now own) right.now.zone.now
+        true (place_of left.now.zone.now left.now.stretch.now own) right.now.zone.now
         right.now.stretch.now others.now) boxes.now }
 {
     let mut range = Range { from: 0, upto: 0 };
@@ -354,7 +356,7 @@ fn first_in_boxes(
           run = scene.now.run.now;
           before = is_before_in scene.now.clocks.now.rows;
         }) shared
-        (model.place_of left.now.zone.now left.now.stretch.now own) right.now.zone.now
+        (place_of left.now.zone.now left.now.stretch.now own) right.now.zone.now
         right.now.stretch.now) left.now.stretch.now.boxes }
 {
     let own = left.stretch;
@@ -541,7 +543,7 @@ fn first_of_ascending<'a>(
     next: &[usize],
 ) -> Option<(PlaceName, PlaceName)>
     requires fit { All (All IsFit) scene.now.run.now.items }
-    requires timed { IsTimed (is_before_in scene.now.clocks.now.rows) own.now (others.now ∷ []) }
+    requires timed { IsTimed (is_before_in scene.now.clocks.now.rows) (own.now ∷ (others.now ∷ [])) }
     requires own_ascend { own_ascends ≡ true → ascents.do_ascend
         (is_before_in scene.now.clocks.now.rows) own.now ≡ true }
     requires ascend { ascents.do_ascend (is_before_in scene.now.clocks.now.rows) others.now ≡ true }
@@ -576,7 +578,7 @@ pub(crate) fn first_of_zones(
     others_ascend: bool,
 ) -> Option<(PlaceName, PlaceName)>
     requires fit { All (All IsFit) scene.now.run.now.items }
-    requires timed { IsTimed (is_before_in scene.now.clocks.now.rows) own.now (others.now ∷ []) }
+    requires timed { IsTimed (is_before_in scene.now.clocks.now.rows) (own.now ∷ (others.now ∷ [])) }
     requires own_ascend { own_ascends ≡ true → ascents.do_ascend
         (is_before_in scene.now.clocks.now.rows) own.now ≡ true }
     requires others_ascend { others_ascend ≡ true

@@ -2,16 +2,15 @@
 ghost use Rattle.std.specs.Prelude.{◌≡◌, ◌⊎◌, ℕ, ◌<◌, ◌≤◌, [], true, false, None, IfOk, length, map, slice_index_or};
 ghost use Rattle.box_tree.specs.Rows.{IsRowOf};
 ghost use Rattle.clash_check.specs.Keeping as model;
-ghost use Rattle.protection_zones.specs.declared.stretches.ZoneBox.{ZoneBox};
 ghost use Rattle.swept_boxes.specs.Boxes.{boxes_meet};
+ghost use Rattle.zone_stretches.specs.declared.stretches.ZoneBox.{ZoneBox};
 
-use crate::overlaps::share_place;
 use box_tree::{BoxTree, KeptTrees, do_meet};
 use out_of_memory::NoMemory;
 use passed_boxes::PassedBoxes;
-use protection_zones::ZoneBox;
 use std::alloc::Global;
 use swept_boxes::Box3;
+use zone_stretches::{ZoneBox, are_compared};
 
 /// From how many boxes on that are held against others a tree over the covers of these serves.
 const TREE_OWN: usize = 8;
@@ -124,7 +123,7 @@ fn past_far(own: &ZoneBox, boxes: &[ZoneBox], covers: &Option<BoxTree>, from: us
 fn is_near(shared: bool, own: &ZoneBox, later: &ZoneBox) -> bool
     ensures { result ≡ model.is_near shared own.now later.now }
 {
-    (!shared || share_place(own, later)) && do_meet(&own.cover, &later.cover)
+    are_compared(shared, own, later) && do_meet(&own.cover, &later.cover)
 }
 
 /// The place of the next of these boxes, from this place on, that is compared with a box and whose cover meets its own.

@@ -1,24 +1,22 @@
 //! How many boxes of each two zones are compared.
-ghost use Rattle.std.specs.Prelude.{◌≡◌, ◌<◌, true, [], ◌++◌, IfOk, OnOk, length};
+ghost use Rattle.std.specs.Prelude.{◌≡◌, ◌<◌, ◌∷◌, true, ◌++◌, IfOk, OnOk, length};
 ghost use Rattle.std.specs.List.{flat_map};
-ghost use Rattle.clash_check.specs.Ascents as orders;
-ghost use Rattle.clash_check.specs.Ascents.{IsTimed};
-ghost use Rattle.protection_zones.specs.Told.{IsTold};
 ghost use Rattle.clash_check.specs.NumberSteps as steps;
 ghost use Rattle.clash_check.specs.PairNumbers as model;
-ghost use Rattle.clash_check.specs.Times.{lists_in, times_from};
 ghost use Rattle.order_clocks.specs.Tells.{is_before_in};
 ghost use Rattle.sync_types.specs.Views.{RunView};
+ghost use Rattle.zone_stretches.specs.Ascents as orders;
+ghost use Rattle.zone_stretches.specs.Ascents.{IsTimed};
+ghost use Rattle.zone_stretches.specs.Times.{lists_in, times_from};
+ghost use Rattle.zone_stretches.specs.Told.{IsTold};
 
-use crate::ascents::{ascends_at, ascents_of};
 use crate::pair_counts::count_of_zones;
-use crate::zone_pairs::lists_of;
 use axis_sets::{ZONE_LIMIT, ZoneId};
 use job_types::{Job, ZoneLine};
 use order_clocks::Clocks;
 use out_of_memory::NoMemory;
-use protection_zones::{Stretch, Stretches, zone_at};
 use std::alloc::{AllocError, Global};
+use zone_stretches::{Stretch, Stretches, ascends_at, ascents_of, lists_of, zone_at};
 
 /// How many boxes of two zones are compared.
 #[derive(Clone, Copy, PartialEq, Eq)]
@@ -55,7 +53,7 @@ fn add_with_place(
     requires place { place < length lists.now }
     requires ascents { orders.AreAscents (is_before_in clocks.now.rows) (lists_in lists.now) ascents.now }
     requires own_ascend { own_ascends ≡ true → orders.do_ascend (is_before_in clocks.now.rows) own.now ≡ true }
-    requires timed { IsTimed (is_before_in clocks.now.rows) own.now (lists_in lists.now) }
+    requires timed { IsTimed (is_before_in clocks.now.rows) (own.now ∷ lists_in lists.now) }
     ensures { OnOk result (rows.new.items ≡ rows.old.items ++ steps.numbers_with_place (is_before_in clocks.now.rows)
         (record { zone = zone.now; stretches = own.now }) job.now (lists_in lists.now) place) }
 {
@@ -93,7 +91,7 @@ fn add_with(
 ) -> Result<(), AllocError>
     requires ascents { orders.AreAscents (is_before_in clocks.now.rows) (lists_in lists.now) ascents.now }
     requires own_ascend { own_ascends ≡ true → orders.do_ascend (is_before_in clocks.now.rows) own.now ≡ true }
-    requires timed { IsTimed (is_before_in clocks.now.rows) own.now (lists_in lists.now) }
+    requires timed { IsTimed (is_before_in clocks.now.rows) (own.now ∷ lists_in lists.now) }
     ensures { OnOk result (rows.new.items ≡ rows.old.items
         ++ flat_map (steps.numbers_with (is_before_in clocks.now.rows)
         (record { zone = zone.now; stretches = own.now })) (times_from job.now (lists_in lists.now) from)) }
@@ -125,7 +123,7 @@ fn add_from_place(
 ) -> Result<(), AllocError>
     requires place { place < length lists.now }
     requires ascents { orders.AreAscents (is_before_in clocks.now.rows) (lists_in lists.now) ascents.now }
-    requires timed { IsTimed (is_before_in clocks.now.rows) [] (lists_in lists.now) }
+    requires timed { IsTimed (is_before_in clocks.now.rows) (lists_in lists.now) }
     ensures { OnOk result (rows.new.items ≡ rows.old.items ++ steps.numbers_from_place (is_before_in clocks.now.rows)
         job.now (lists_in lists.now) place) }
 {
@@ -152,7 +150,7 @@ fn numbers_in(
     lists: &[Vec<Stretch>],
     clocks: &Clocks,
 ) -> Result<Vec<PairNumber>, AllocError>
-    requires { IsTimed (is_before_in clocks.now.rows) [] (lists_in lists.now) }
+    requires { IsTimed (is_before_in clocks.now.rows) (lists_in lists.now) }
     ensures { IfOk result (λ rows. rows.items ≡ steps.numbers_in_times (is_before_in clocks.now.rows)
         (times_from job.now (lists_in lists.now) 0)) }
 {

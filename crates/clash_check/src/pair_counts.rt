@@ -1,26 +1,26 @@
 //! How many pairs of boxes are compared.
 ghost use Rattle.std.specs.Prelude.{◌≡◌, ◌<◌, ◌+◌, ◌^◌, true, [], ◌∷◌, length, sum_by};
 ghost use Rattle.std.specs.List.{count_by};
-ghost use Rattle.clash_check.specs.Ascents as orders;
-ghost use Rattle.clash_check.specs.Ascents.{IsTimed};
 ghost use Rattle.clash_check.specs.Counts.{count_of};
-ghost use Rattle.protection_zones.specs.Told.{IsTold};
 ghost use Rattle.clash_check.specs.PairCounts as model;
 ghost use Rattle.clash_check.specs.PlaceRanges as places;
-ghost use Rattle.clash_check.specs.Times.{lists_in, times_from};
 ghost use Rattle.order_clocks.specs.Tells.{is_before_in};
-ghost use Rattle.protection_zones.specs.Overlaps.{ZoneTime, share_place};
 ghost use Rattle.sync_types.specs.Views.{RunView};
+ghost use Rattle.zone_stretches.specs.Ascents as orders;
+ghost use Rattle.zone_stretches.specs.Ascents.{IsTimed};
+ghost use Rattle.zone_stretches.specs.Overlaps.{ZoneTime, share_place};
+ghost use Rattle.zone_stretches.specs.Times.{lists_in, times_from};
+ghost use Rattle.zone_stretches.specs.Told.{IsTold};
 
-use crate::ascents::{Range, ascends_at, ascents_of, range_of, start_walk};
-use crate::overlaps::{may_overlap, share_channel, share_place};
 use crate::place_ranges::{do_boxes_ascend, place_range};
 use crate::running::{Boxes, boxes_before, count_in_range, mark_latest};
-use crate::zone_pairs::lists_of;
 use axis_sets::{CHANNEL_PLACES, ZONE_LIMIT};
 use job_types::{Job, ZoneLine};
 use order_clocks::Clocks;
-use protection_zones::{Stretch, Stretches, ZoneBox, zone_at};
+use zone_stretches::{
+    Range, Stretch, Stretches, ZoneBox, ascends_at, ascents_of, lists_of, may_overlap, range_of,
+    share_channel, share_place, start_walk, zone_at,
+};
 
 /// With how many of these a box holds a place in common.
 fn count_near(own: &ZoneBox, others: &[ZoneBox]) -> u64
@@ -129,7 +129,7 @@ fn count_all(clocks: &Clocks, own: &[Stretch], others: &[Stretch]) -> u64
 /// The pairs of the stretches of two zones, where each of the second is over as the next begins: a stretch of the first is looked
 /// at with those alone that it may overlap.
 fn count_ascending(clocks: &Clocks, own: &[Stretch], others: &[Stretch], own_ascends: bool) -> u64
-    requires timed { IsTimed (is_before_in clocks.now.rows) own.now (others.now ∷ []) }
+    requires timed { IsTimed (is_before_in clocks.now.rows) (own.now ∷ (others.now ∷ [])) }
     requires own_ascend { own_ascends ≡ true → orders.do_ascend (is_before_in clocks.now.rows) own.now ≡ true }
     requires ascend { orders.do_ascend (is_before_in clocks.now.rows) others.now ≡ true }
     ensures { result ≡ model.capped (sum_by (model.count_against (is_before_in clocks.now.rows) others.now) own.now) }
@@ -163,7 +163,7 @@ pub(crate) fn count_of_zones(
     others: &[Stretch],
     others_ascend: bool,
 ) -> u64
-    requires timed { IsTimed (is_before_in clocks.now.rows) own.now (others.now ∷ []) }
+    requires timed { IsTimed (is_before_in clocks.now.rows) (own.now ∷ (others.now ∷ [])) }
     requires own_ascend { own_ascends ≡ true → orders.do_ascend (is_before_in clocks.now.rows) own.now ≡ true }
     requires others_ascend { others_ascend ≡ true → orders.do_ascend (is_before_in clocks.now.rows) others.now ≡ true }
     ensures { result ≡ model.capped (model.count_of_zones (is_before_in clocks.now.rows)
@@ -193,7 +193,7 @@ fn count_with_place(
     requires place { place < length lists.now }
     requires ascents { orders.AreAscents (is_before_in clocks.now.rows) (lists_in lists.now) ascents.now }
     requires own_ascend { own_ascends ≡ true → orders.do_ascend (is_before_in clocks.now.rows) own.now ≡ true }
-    requires timed { IsTimed (is_before_in clocks.now.rows) own.now (lists_in lists.now) }
+    requires timed { IsTimed (is_before_in clocks.now.rows) (own.now ∷ lists_in lists.now) }
     ensures { result ≡ model.capped (model.count_with_place (is_before_in clocks.now.rows)
         (record { zone = zone.now; stretches = own.now }) job.now (lists_in lists.now) place) }
 {
@@ -224,7 +224,7 @@ fn count_with(
 ) -> u64
     requires ascents { orders.AreAscents (is_before_in clocks.now.rows) (lists_in lists.now) ascents.now }
     requires own_ascend { own_ascends ≡ true → orders.do_ascend (is_before_in clocks.now.rows) own.now ≡ true }
-    requires timed { IsTimed (is_before_in clocks.now.rows) own.now (lists_in lists.now) }
+    requires timed { IsTimed (is_before_in clocks.now.rows) (own.now ∷ lists_in lists.now) }
     ensures { result ≡ model.capped (sum_by (model.count_of_zones (is_before_in clocks.now.rows)
         (record { zone = zone.now; stretches = own.now })) (times_from job.now (lists_in lists.now) from)) }
 {
@@ -254,7 +254,7 @@ fn count_from_place(
 ) -> u64
     requires place { place < length lists.now }
     requires ascents { orders.AreAscents (is_before_in clocks.now.rows) (lists_in lists.now) ascents.now }
-    requires timed { IsTimed (is_before_in clocks.now.rows) [] (lists_in lists.now) }
+    requires timed { IsTimed (is_before_in clocks.now.rows) (lists_in lists.now) }
     ensures { result ≡ model.capped (model.count_from_place (is_before_in clocks.now.rows)
         job.now (lists_in lists.now) place) }
 {
@@ -275,7 +275,7 @@ fn count_from_place(
 
 /// The pairs of each zone with each later one, or the greatest `u64` where there are more.
 fn count_in(job: &Job, lists: &[Vec<Stretch>], clocks: &Clocks) -> u64
-    requires { IsTimed (is_before_in clocks.now.rows) [] (lists_in lists.now) }
+    requires { IsTimed (is_before_in clocks.now.rows) (lists_in lists.now) }
     ensures { result ≡ model.capped (model.count_in_times (is_before_in clocks.now.rows)
         (times_from job.now (lists_in lists.now) 0)) }
 {

@@ -1,11 +1,10 @@
 //! Which boxes of a stretch hold a place in common with a box of another stretch of the same channel: the boxes of a stretch begin
 //! and end one after another, so these stand side by side.
-ghost use Rattle.clash_check.specs.Ascents.{PassFirst, leading};
 ghost use Rattle.clash_check.specs.PlaceRanges as model;
+ghost use Rattle.zone_stretches.specs.Ascents.{PassFirst, leading};
 ghost use Rattle.std.specs.Prelude.{◌≡◌, ◌+◌, ◌-◌, ◌<◌, ◌≤◌, not, Bool, true, false, drop, take, length};
 
-use crate::ascents::Range;
-use protection_zones::ZoneBox;
+use zone_stretches::{Range, ZoneBox};
 
 /// Whether a box neither begins nor ends after the one of this place, if there is one.
 fn is_by_at(own: &ZoneBox, boxes: &[ZoneBox], place: usize) -> bool

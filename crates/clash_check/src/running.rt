@@ -1,16 +1,15 @@
 //! What is counted of the stretches of a zone as places among them go on.
 ghost use Rattle.axis_sets.specs.declared.limits.TheConstants.{CHANNEL_PLACES};
-ghost use Rattle.clash_check.specs.Ascents as ascents;
 ghost use Rattle.clash_check.specs.PairCounts as counts;
 ghost use Rattle.clash_check.specs.Running as model;
 ghost use Rattle.order_clocks.specs.Tells.{is_before_in};
+ghost use Rattle.zone_stretches.specs.Ascents as ascents;
 ghost use Rattle.std.specs.Prelude.{◌≡◌, ℕ, ◌+◌, ◌<◌, ◌≤◌, true, false, Bool, Some, length, slice_index, if◌then◌else◌};
 
-use crate::ascents::{Range, part};
 use crate::pair_counts::count_against;
 use axis_sets::CHANNEL_PLACES;
 use order_clocks::Clocks;
-use protection_zones::Stretch;
+use zone_stretches::{Range, Stretch, part};
 
 /// How many boxes the stretches before a place have, or the greatest `u64` where they have more.
 #[derive(Clone, Copy)]

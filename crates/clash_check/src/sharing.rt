@@ -1,22 +1,22 @@
 //! The pairs of zones are shared out to threads, in chunks.
-ghost use Rattle.std.specs.Prelude.{◌≡◌, ℕ, ◌*◌, ◌<◌, ◌≤◌, [], All, IfOk, length};
-ghost use Rattle.clash_check.specs.Ascents.{AreAscents, IsTimed};
+ghost use Rattle.std.specs.Prelude.{◌≡◌, ℕ, ◌*◌, ◌<◌, ◌≤◌, All, IfOk, length};
 ghost use Rattle.clash_check.specs.Chunks as model;
 ghost use Rattle.clash_check.specs.FirstAnswer.{first_some};
-ghost use Rattle.clash_check.specs.Times.{lists_in};
 ghost use Rattle.clash_check.specs.ZonePairs.{first_of_pairs};
 ghost use Rattle.order_clocks.specs.Tells.{is_before_in};
-ghost use Rattle.protection_zones.specs.ZoneBoxes.{IsFit};
+ghost use Rattle.zone_stretches.specs.Ascents.{AreAscents, IsTimed};
+ghost use Rattle.zone_stretches.specs.Times.{lists_in};
+ghost use Rattle.zone_stretches.specs.ZoneBoxes.{IsFit};
 
 use crate::meetings::Scene;
 use crate::nearby::KEPT_LIMIT;
 use crate::zone_pairs::first_of_pairs;
 use axis_sets::ZONE_LIMIT;
-use protection_zones::Stretch;
 use std::alloc::{AllocError, Global};
 use std::thread;
 use std::thread::Threads;
 use sync_types::PlaceName;
+use zone_stretches::Stretch;
 
 /// Into how many chunks the pairs are cut at most. There is a thread for each, where one can be made.
 const CHUNK_LIMIT: usize = 16;
@@ -54,16 +54,16 @@ struct Zones<'a, 'b> {
 }
 
 impl Seeks for Zones<'_, '_> {
-    ghost use Rattle.std.specs.Prelude.{◌*◌, ◌≤◌, [], All};
-    ghost use Rattle.clash_check.specs.Ascents.{AreAscents, IsTimed};
-    ghost use Rattle.clash_check.specs.Times.{lists_in};
+    ghost use Rattle.std.specs.Prelude.{◌*◌, ◌≤◌, All};
     ghost use Rattle.clash_check.specs.ZonePairs.{first_of_pairs};
     ghost use Rattle.clash_check.specs.declared.nearby.TheConstants.{KEPT_LIMIT};
     ghost use Rattle.order_clocks.specs.Tells.{is_before_in};
-    ghost use Rattle.protection_zones.specs.ZoneBoxes.{IsFit};
+    ghost use Rattle.zone_stretches.specs.Ascents.{AreAscents, IsTimed};
+    ghost use Rattle.zone_stretches.specs.Times.{lists_in};
+    ghost use Rattle.zone_stretches.specs.ZoneBoxes.{IsFit};
 
     ghost ready = { λ zones. All (All IsFit) zones.scene.run.now.items
-        × IsTimed (is_before_in zones.scene.clocks.now.rows) [] (lists_in zones.lists.now)
+        × IsTimed (is_before_in zones.scene.clocks.now.rows) (lists_in zones.lists.now)
         × AreAscents (is_before_in zones.scene.clocks.now.rows) (lists_in zones.lists.now) zones.ascents.now };
 
     ghost has_room = { λ zones count. zones.scene.room * count ≤ KEPT_LIMIT };
@@ -154,7 +154,7 @@ fn seek_by_threads<R: Threads + Sync>(
     pairs: &[(usize, usize)],
 ) -> Result<Option<(PlaceName, PlaceName)>, AllocError>
     requires fit { All (All IsFit) scene.now.run.now.items }
-    requires timed { IsTimed (is_before_in scene.now.clocks.now.rows) [] (lists_in lists.now) }
+    requires timed { IsTimed (is_before_in scene.now.clocks.now.rows) (lists_in lists.now) }
     requires ascents { AreAscents (is_before_in scene.now.clocks.now.rows) (lists_in lists.now) ascents.now }
     requires room { scene.now.room ≤ KEPT_LIMIT }
     ensures { IfOk result (λ names. names ≡ first_of_pairs
@@ -189,7 +189,7 @@ pub(crate) fn first_by_threads<R: Threads + Sync>(
     pairs: &[(usize, usize)],
 ) -> Option<(PlaceName, PlaceName)>
     requires fit { All (All IsFit) scene.now.run.now.items }
-    requires timed { IsTimed (is_before_in scene.now.clocks.now.rows) [] (lists_in lists.now) }
+    requires timed { IsTimed (is_before_in scene.now.clocks.now.rows) (lists_in lists.now) }
     requires ascents { AreAscents (is_before_in scene.now.clocks.now.rows) (lists_in lists.now) ascents.now }
     requires room { scene.now.room ≤ KEPT_LIMIT }
     ensures { result ≡ first_of_pairs (record {

@@ -3,8 +3,8 @@ ghost use Rattle.clash_check.specs.Shown as model;
 ghost use Rattle.std.specs.Prelude.{◌≡◌, ℕ, ◌+◌, ◌-◌, ◌≤◌, IfOk, length, vec_len, slice_index};
 
 use out_of_memory::NoMemory;
-use protection_zones::Stretch;
 use std::alloc::Global;
+use zone_stretches::Stretch;
 
 /// Zeros, one more than there are stretches.
 fn zeros(alloc: Global, stretches: &[Stretch]) -> Result<Vec<usize>, NoMemory>

@@ -1,18 +1,17 @@
 //! The pairs of zones, and the first two boxes of some of these pairs that meet.
 ghost use Rattle.std.specs.Prelude.{◌≡◌, ℕ, ◌+◌, ◌-◌, ◌<◌, [], ◌++◌, All, IfOk, length, slice_index_or};
-ghost use Rattle.clash_check.specs.Ascents.{AreAscents, IsTimed};
-ghost use Rattle.clash_check.specs.Times.{lists_in};
 ghost use Rattle.clash_check.specs.ZonePairs as model;
 ghost use Rattle.order_clocks.specs.Tells.{is_before_in};
-ghost use Rattle.protection_zones.specs.ZoneBoxes.{IsFit};
+ghost use Rattle.zone_stretches.specs.Ascents.{AreAscents, IsTimed};
+ghost use Rattle.zone_stretches.specs.Times.{lists_in};
+ghost use Rattle.zone_stretches.specs.ZoneBoxes.{IsFit};
 
-use crate::ascents::ascends_at;
 use crate::meetings::{Scene, first_of_zones};
 use axis_sets::ZONE_LIMIT;
 use out_of_memory::NoMemory;
-use protection_zones::{Stretch, Stretches, zone_at};
 use std::alloc::Global;
 use sync_types::PlaceName;
+use zone_stretches::{Stretch, ascends_at, zone_at};
 
 /// Appends the pairs of the zone of a place with each later one, of so many.
 fn push_pairs(pairs: &mut Vec<(usize, usize)>, place: usize, count: usize) -> Result<(), NoMemory>
@@ -37,13 +36,6 @@ pub(crate) fn zone_pairs(alloc: Global, count: usize) -> Result<Vec<(usize, usiz
     Ok(pairs)
 }
 
-/// The stretches of all zones.
-pub(crate) fn lists_of(stretches: &Stretches) -> &[Vec<Stretch>]
-    ensures { lists_in result.now ≡ stretches.now.zones }
-{
-    stretches.zones.as_slice()
-}
-
 /// The stretches of the zone of this place; none past the last zone.
 fn stretches_at(lists: &[Vec<Stretch>], place: usize) -> &[Stretch]
     ensures { result.now ≡ slice_index_or (lists_in lists.now) place [] }
@@ -63,7 +55,7 @@ fn first_of_pair(
     pair: (usize, usize),
 ) -> Option<(PlaceName, PlaceName)>
     requires fit { All (All IsFit) scene.now.run.now.items }
-    requires timed { IsTimed (is_before_in scene.now.clocks.now.rows) [] (lists_in lists.now) }
+    requires timed { IsTimed (is_before_in scene.now.clocks.now.rows) (lists_in lists.now) }
     requires ascents { AreAscents (is_before_in scene.now.clocks.now.rows) (lists_in lists.now) ascents.now }
     ensures { result ≡ model.first_of_pair (record {
       job = scene.now.job.now;
@@ -103,7 +95,7 @@ pub(crate) fn first_of_pairs(
     pairs: &[(usize, usize)],
 ) -> Option<(PlaceName, PlaceName)>
     requires fit { All (All IsFit) scene.now.run.now.items }
-    requires timed { IsTimed (is_before_in scene.now.clocks.now.rows) [] (lists_in lists.now) }
+    requires timed { IsTimed (is_before_in scene.now.clocks.now.rows) (lists_in lists.now) }
     requires ascents { AreAscents (is_before_in scene.now.clocks.now.rows) (lists_in lists.now) ascents.now }
     ensures { result ≡ model.first_of_pairs (record {
       job = scene.now.job.now;

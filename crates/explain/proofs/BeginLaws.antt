@@ -7,7 +7,7 @@ use Rattle.explain.specs.Headlines.{BeginsWith, first_line, headline, stop_text}
 use Rattle.job_types.specs.Job.{JobView}
 use Rattle.fault_codes.specs.declared.Alarm.{Alarm}
 use Rattle.order_clocks.specs.Clocked.{ClocksView}
-use Rattle.protection_zones.specs.Stretches.{StretchesView}
+use Rattle.zone_stretches.specs.Stretches.{StretchesView}
 use Rattle.stop_reasons.specs.Alarms.{alarm_text}
 use Rattle.stop_reasons.specs.RaceTexts.{race_text}
 use Rattle.stop_reasons.specs.Stuck.{last_board, stuck_text}

@@ -6,7 +6,7 @@ use Rattle.explain.specs.Drawn.{IsDrawn}
 use Rattle.job_types.specs.Job.{JobView}
 use Rattle.out_of_memory.specs.declared.NoMemory.{NoMemory}
 use Rattle.picture_views.specs.declared.shapes.Picture.{Picture}
-use Rattle.protection_zones.specs.Stretches.{StretchesView}
+use Rattle.zone_stretches.specs.Stretches.{StretchesView}
 use Rattle.run_drawing.specs.Drawing.{drawing_text}
 use Rattle.run_pictures.specs.Boxes.{all_tiles}
 use Rattle.run_pictures.specs.Moments.{channels_of, moments_from}

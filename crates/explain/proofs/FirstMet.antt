@@ -9,9 +9,9 @@ use Rattle.explain.specs.Judgements.{AreMet, IsFirstMet}
 use Rattle.job_types.specs.Job.{JobView}
 use Rattle.met_boxes.specs.Meetings.{meetings_of, told_box, told_pair}
 use Rattle.out_of_memory.specs.declared.NoMemory.{NoMemory}
-use Rattle.protection_zones.specs.Overlaps.{Order, Pair, compared_pairs}
-use Rattle.protection_zones.specs.Pieces.{pair_meets}
-use Rattle.protection_zones.specs.Stretches.{StretchesView}
+use Rattle.zone_stretches.specs.Overlaps.{Order, Pair, compared_pairs}
+use Rattle.zone_stretches.specs.Pieces.{pair_meets}
+use Rattle.zone_stretches.specs.Stretches.{StretchesView}
 use Rattle.stop_verdicts.specs.FirstAnswer.{first_some}
 use Rattle.sync_types.specs.Views.{RunView}
 use Rattle.sync_types.specs.declared.ChannelEnd.{ChannelEnd}

@@ -4,7 +4,7 @@ use Rattle.explain.specs.Explained.{IsHeaded}
 use Rattle.explain.specs.Headlines.{yes_line}
 use Rattle.explain.specs.Room.{IsYesText}
 use Rattle.job_types.specs.Job.{JobView}
-use Rattle.protection_zones.specs.Overlaps.{Pair}
+use Rattle.zone_stretches.specs.Overlaps.{Pair}
 use Rattle.sync_types.specs.Views.{RunView}
 use Rattle.zone_pairs.specs.declared.pairs.ZonePair.{ZonePair}
 

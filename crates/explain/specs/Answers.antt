@@ -14,7 +14,7 @@ use Rattle.job_types.specs.Job.{JobView}
 use Rattle.fault_codes.specs.declared.Refusal.{Refusal}
 use Rattle.order_clocks.specs.Clocked.{ClocksView}
 use Rattle.order_clocks.specs.Tells.{is_before_in}
-use Rattle.protection_zones.specs.Stretches.{StretchesView}
+use Rattle.zone_stretches.specs.Stretches.{StretchesView}
 use Rattle.ready_copies.specs.Copies.{left_out_text}
 use Rattle.refused_lines.specs.Listing.{refusals_text}
 use Rattle.refused_lines.specs.Rows.{refused_line}

@@ -2,7 +2,7 @@
 use Rattle.std.specs.Prelude.{◌≡◌, ◌++◌, ◌||◌, ℕ, List, length, nat_lt, take, Option}
 use Rattle.job_types.specs.Job.{JobView}
 use Rattle.picture_views.specs.declared.shapes.Picture.{Picture}
-use Rattle.protection_zones.specs.Stretches.{StretchesView}
+use Rattle.zone_stretches.specs.Stretches.{StretchesView}
 use Rattle.run_drawing.specs.Drawing.{drawing_text}
 use Rattle.run_pictures.specs.Boxes.{all_tiles}
 use Rattle.run_pictures.specs.Moments.{channels_of, moments_from}

@@ -14,8 +14,8 @@ use Rattle.job_types.specs.Job.{JobView}
 use Rattle.met_boxes.specs.ZonePairs.{zone_pairs_of}
 use Rattle.order_clocks.specs.Clocked.{ClocksView}
 use Rattle.order_clocks.specs.Tells.{is_before_in}
-use Rattle.protection_zones.specs.Overlaps.{compared_pairs}
-use Rattle.protection_zones.specs.Stretches.{StretchesView}
+use Rattle.zone_stretches.specs.Overlaps.{compared_pairs}
+use Rattle.zone_stretches.specs.Stretches.{StretchesView}
 use Rattle.run_assumptions.specs.Assumptions.{assumptions_of}
 use Rattle.run_assumptions.specs.Texts.{assumptions_text}
 use Rattle.stop_reasons.specs.Alarms.{alarm_text}

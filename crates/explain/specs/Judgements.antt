@@ -7,10 +7,10 @@ use Rattle.job_types.specs.Job.{JobView}
 use Rattle.met_boxes.specs.Meetings.{meetings_of}
 use Rattle.order_clocks.specs.Clocked.{ClocksView}
 use Rattle.order_clocks.specs.Tells.{is_before_in}
-use Rattle.protection_zones.specs.Overlaps.{Order}
-use Rattle.protection_zones.specs.Stretches.{StretchesView}
-use Rattle.protection_zones.specs.Told.{IsTold}
-use Rattle.protection_zones.specs.ZoneBoxes.{IsFit}
+use Rattle.zone_stretches.specs.Overlaps.{Order}
+use Rattle.zone_stretches.specs.Stretches.{StretchesView}
+use Rattle.zone_stretches.specs.Told.{IsTold}
+use Rattle.zone_stretches.specs.ZoneBoxes.{IsFit}
 use Rattle.sync_types.specs.Views.{RunView}
 use Rattle.sync_types.specs.declared.verdicts.PlaceName.{PlaceName}
 use Rattle.sync_types.specs.declared.verdicts.Verdict.TheVariants.{No}

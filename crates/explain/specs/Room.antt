@@ -8,7 +8,7 @@ use Rattle.growing_text.specs.Lengths.{millimetres_text}
 use Rattle.job_types.specs.Job.{JobView}
 use Rattle.met_boxes.specs.Nearest.{AreNearest}
 use Rattle.met_boxes.specs.declared.nearest.Near.{Near}
-use Rattle.protection_zones.specs.Overlaps.{Pair}
+use Rattle.zone_stretches.specs.Overlaps.{Pair}
 use Rattle.sync_types.specs.Views.{RunView}
 use Rattle.told_places.specs.Places.{place_text}
 use Rattle.zone_pairs.specs.PairTexts.{pairs_text}

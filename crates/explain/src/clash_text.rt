@@ -5,7 +5,7 @@ ghost use Rattle.explain.specs.Clashes as model;
 ghost use Rattle.explain.specs.Explained.{IsHeaded};
 ghost use Rattle.explain.specs.LineTexts.{AreSaid};
 ghost use Rattle.job_types.specs.SoundJob.{IsSoundJob};
-ghost use Rattle.protection_zones.specs.ZoneBoxes.{IsFit};
+ghost use Rattle.zone_stretches.specs.ZoneBoxes.{IsFit};
 
 use crate::judged::Judged;
 use crate::line_texts::{LineTexts, say_known, texts_of};

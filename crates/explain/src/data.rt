@@ -1,8 +1,8 @@
 //! The same facts as the text has, as JSON.
 ghost use Rattle.std.specs.Prelude.{◌^◌, ◌<◌, All, length};
 ghost use Rattle.job_types.specs.SoundJob.{BlocksFit, IsSoundJob};
-ghost use Rattle.protection_zones.specs.Told.{IsTold};
-ghost use Rattle.protection_zones.specs.ZoneBoxes.{IsFit};
+ghost use Rattle.zone_stretches.specs.Told.{IsTold};
+ghost use Rattle.zone_stretches.specs.ZoneBoxes.{IsFit};
 ghost use Rattle.sync_types.specs.Runs.{ComesFrom};
 
 use crate::data_waits::waits_data;

@@ -7,9 +7,9 @@ ghost use Rattle.explain.specs.Numbers as numbers;
 ghost use Rattle.explain.specs.Room as room;
 ghost use Rattle.job_types.specs.SoundJob.{IsSoundJob};
 ghost use Rattle.order_clocks.specs.Tells.{is_before_in};
-ghost use Rattle.protection_zones.specs.Overlaps.{compared_pairs};
-ghost use Rattle.protection_zones.specs.Told.{IsTold};
-ghost use Rattle.protection_zones.specs.ZoneBoxes.{IsFit};
+ghost use Rattle.zone_stretches.specs.Overlaps.{compared_pairs};
+ghost use Rattle.zone_stretches.specs.Told.{IsTold};
+ghost use Rattle.zone_stretches.specs.ZoneBoxes.{IsFit};
 
 use crate::judged::Judged;
 use clash_check::{PairNumber, pair_numbers};

@@ -7,9 +7,9 @@ use Rattle.std.proofs.lemmas.List.Sums.{length-filter, sum_by-cons, sum_by_more}
 use Rattle.job_types.specs.declared.job.ZoneLine.{ZoneLine}
 use Rattle.met_boxes.specs.CountSteps.{count_in_boxes, count_sharing}
 use Rattle.met_boxes.specs.Groups.{capped}
-use Rattle.protection_zones.specs.Overlaps.{Order, Pair, are_compared, box_pairs, may_overlap, share_channel, share_place, stretch_pairs}
-use Rattle.protection_zones.specs.Stretches.{StretchView}
-use Rattle.protection_zones.specs.declared.stretches.ZoneBox.{ZoneBox}
+use Rattle.zone_stretches.specs.Overlaps.{Order, Pair, are_compared, box_pairs, may_overlap, share_channel, share_place, stretch_pairs}
+use Rattle.zone_stretches.specs.Stretches.{StretchView}
+use Rattle.zone_stretches.specs.declared.stretches.ZoneBox.{ZoneBox}
 
 -- ---- what is counted of the first elements of a list
 

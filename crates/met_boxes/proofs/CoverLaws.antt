@@ -11,13 +11,13 @@ use Rattle.box_reach.specs.Reaches.{reach_of}
 use Rattle.job_types.specs.Job.{JobView}
 use Rattle.met_boxes.specs.Nearest.{pair_reaches}
 use Rattle.order_clocks.specs.Clocked.{ClocksView}
-use Rattle.protection_zones.proofs.PiecesInCovers.{pairs_in_cover, times_in_cover}
-use Rattle.protection_zones.specs.InCovers.{IsWithin, IsInCover, IsTimeInCover, ArePairsInCover}
-use Rattle.protection_zones.specs.Overlaps.{Order, Pair, compared_pairs, zone_times}
-use Rattle.protection_zones.specs.Pieces.{piece_boxes, pair_meets}
-use Rattle.protection_zones.specs.Stretches.{StretchesView}
-use Rattle.protection_zones.specs.Told.{IsTold}
-use Rattle.protection_zones.specs.ZoneBoxes.{IsFit}
+use Rattle.zone_stretches.proofs.PiecesInCovers.{pairs_in_cover, times_in_cover}
+use Rattle.zone_stretches.specs.InCovers.{IsWithin, IsInCover, IsTimeInCover, ArePairsInCover}
+use Rattle.zone_stretches.specs.Overlaps.{Order, Pair, compared_pairs, zone_times}
+use Rattle.zone_stretches.specs.Pieces.{piece_boxes, pair_meets}
+use Rattle.zone_stretches.specs.Stretches.{StretchesView}
+use Rattle.zone_stretches.specs.Told.{IsTold}
+use Rattle.zone_stretches.specs.ZoneBoxes.{IsFit}
 use Rattle.swept_boxes.proofs.Meeting.{meet-from_touch, touch-from_meet}
 use Rattle.swept_boxes.proofs.MeetTests.{meet_passes}
 use Rattle.swept_boxes.specs.Boxes.{DoMeet, low_of, high_of, boxes_meet}

@@ -5,15 +5,16 @@ use Rattle.std.proofs.lemmas.List.Elements.{All-head, All-tail, filter-append}
 use Rattle.std.specs.List.{flat_map, list_any}
 use Rattle.box_reach.specs.Lots.{lots_meet}
 use Rattle.job_types.specs.declared.job.ZoneLine.{ZoneLine}
-use Rattle.protection_zones.specs.InCovers.{IsInCover, ArePairsInCover}
-use Rattle.protection_zones.specs.Overlaps.{BoxPlace, Pair, are_compared, may_overlap, box_pairs, stretch_pairs}
-use Rattle.protection_zones.specs.Pieces.{pair_meets, piece_boxes}
-use Rattle.protection_zones.specs.Stretches.{StretchView}
-use Rattle.protection_zones.specs.declared.stretches.ZoneBox.{ZoneBox}
+use Rattle.zone_stretches.specs.InCovers.{IsInCover, ArePairsInCover}
+use Rattle.zone_stretches.specs.Overlaps.{BoxPlace, Pair, are_compared, may_overlap, box_pairs, stretch_pairs}
+use Rattle.zone_stretches.specs.Pieces.{pair_meets, piece_boxes}
+use Rattle.zone_stretches.specs.Stretches.{StretchView}
+use Rattle.zone_stretches.specs.declared.stretches.ZoneBox.{ZoneBox}
 use Rattle.met_boxes.proofs.AddLaws.{flat_map_same}
 use Rattle.met_boxes.proofs.CoverLaws.{covers_meet}
 use Rattle.met_boxes.specs.Meetings.{told_pair}
-use Rattle.met_boxes.specs.MeetingSteps.{Case, place_of, may_meet, met_one, met_by, met_in_boxes, met_in_stretches, met_in_row}
+use Rattle.met_boxes.specs.MeetingSteps.{may_meet, met_one, met_by, met_in_boxes, met_in_stretches, met_in_row}
+use Rattle.zone_stretches.specs.Cases.{Case, place_of}
 use Rattle.met_boxes.specs.Rows.{RowView, pairs_in, row_pairs}
 use Rattle.swept_boxes.specs.Boxes.{boxes_meet}
 use Rattle.swept_boxes.specs.declared.Box3.{Box3}

@@ -1,5 +1,4 @@
 pub mod AddLaws
-pub mod AscentLaws
 pub mod NearLaws
 pub mod TimeLaws
 pub mod RowLaws

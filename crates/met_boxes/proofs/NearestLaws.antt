@@ -16,15 +16,15 @@ use Rattle.met_boxes.proofs.CoverLaws.{pair_within, part_left, part_right}
 use Rattle.met_boxes.proofs.PutLaws.{from_cases, never, put_all, put_apart, put_each}
 use Rattle.met_boxes.proofs.SomeLaws.{pair_has}
 use Rattle.met_boxes.specs.Meetings.{told_place}
-use Rattle.met_boxes.specs.MeetingSteps.{place_of}
+use Rattle.zone_stretches.specs.Cases.{place_of}
 use Rattle.met_boxes.specs.Nearest.{AreNearest, IsNearest, groups_of, pair_reaches}
 use Rattle.met_boxes.specs.NearSteps.{AreNearestSoFar, is_as_near, may_be_nearer, may_count, nearer, pair_where, put_near, same_groups}
 use Rattle.met_boxes.specs.Puts.{AreApart}
 use Rattle.met_boxes.specs.declared.nearest.Near.{Near}
-use Rattle.protection_zones.specs.InCovers.{IsInCover}
-use Rattle.protection_zones.specs.Overlaps.{BoxPlace, Pair, are_compared}
-use Rattle.protection_zones.specs.Stretches.{StretchView}
-use Rattle.protection_zones.specs.declared.stretches.ZoneBox.{ZoneBox}
+use Rattle.zone_stretches.specs.InCovers.{IsInCover}
+use Rattle.zone_stretches.specs.Overlaps.{BoxPlace, Pair, are_compared}
+use Rattle.zone_stretches.specs.Stretches.{StretchView}
+use Rattle.zone_stretches.specs.declared.stretches.ZoneBox.{ZoneBox}
 use Rattle.sync_types.specs.Views.{RunView}
 
 -- ---- numbers of two

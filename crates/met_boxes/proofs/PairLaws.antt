@@ -9,7 +9,6 @@ use Rattle.std.proofs.lemmas.List.Elements.{All-nil, All-cons, All-head, All-tai
 use Rattle.box_reach.proofs.LotLaws.{in_front, le_itself, le_trans}
 use Rattle.box_reach.specs.Lots.{IsGreatest, greater}
 use Rattle.job_types.specs.Job.{JobView}
-use Rattle.job_types.specs.declared.job.ZoneLine.{ZoneLine}
 use Rattle.met_boxes.proofs.AddLaws.{flat_map_append}
 use Rattle.met_boxes.proofs.CoverLaws.{part_left, part_right}
 use Rattle.met_boxes.specs.Groups.{capped}
@@ -18,13 +17,13 @@ use Rattle.met_boxes.specs.PairSteps.{AreReady}
 use Rattle.met_boxes.specs.Rows.{RowView, IsRowTimed, pairs_in, row_pairs, rows_by_group, rows_for}
 use Rattle.met_boxes.specs.ZonePairs.{comparison_of, each_two_of, greatest_of, pairs_of_two, two_of}
 use Rattle.met_boxes.specs.declared.nearest.Near.{Near}
-use Rattle.protection_zones.specs.InCovers.{IsInCover}
-use Rattle.protection_zones.specs.Overlaps.{Order, Pair, ZoneTime, are_compared, box_pairs, may_overlap, pairs_of_zones, stretch_pairs}
-use Rattle.protection_zones.specs.Stretches.{StretchView}
-use Rattle.protection_zones.specs.declared.stretches.ZoneBox.{ZoneBox}
 use Rattle.sync_types.specs.Views.{RunView}
 use Rattle.zone_pairs.specs.declared.pairs.Comparison.{Comparison}
 use Rattle.zone_pairs.specs.declared.pairs.ZonePair.{ZonePair}
+use Rattle.zone_stretches.specs.InCovers.{IsInCover}
+use Rattle.zone_stretches.specs.Overlaps.{Order, Pair, ZoneTime, are_compared, box_pairs, may_overlap, pairs_of_zones, stretch_pairs}
+use Rattle.zone_stretches.specs.Stretches.{StretchView}
+use Rattle.zone_stretches.specs.declared.stretches.ZoneBox.{ZoneBox}
 
 -- ---- the greatest of some numbers
 

@@ -12,16 +12,16 @@ use Rattle.job_types.specs.Job.{JobView}
 use Rattle.job_types.specs.declared.job.ZoneLine.{ZoneLine}
 use Rattle.met_boxes.proofs.NearestLaws.{as_near, kept_near, less_trans, only_row, pair_same}
 use Rattle.met_boxes.proofs.SomeLaws.{pair_has}
-use Rattle.met_boxes.specs.MeetingSteps.{place_of}
+use Rattle.zone_stretches.specs.Cases.{place_of}
 use Rattle.met_boxes.specs.Nearest.{AreNearest, IsNearest, groups_of, pair_reaches}
 use Rattle.met_boxes.specs.NearSteps.{is_as_near, pair_where, pairs_by}
 use Rattle.met_boxes.specs.PassedOwns.{ArePassed, reaches_no_further}
 use Rattle.met_boxes.specs.declared.nearest.Near.{Near}
 use Rattle.passed_boxes.specs.declared.passed.PassedBox.{PassedBox}
-use Rattle.protection_zones.specs.Overlaps.{BoxPlace, Pair, are_compared, share_channel, share_place}
-use Rattle.protection_zones.specs.Pieces.{motion_at, piece_boxes}
-use Rattle.protection_zones.specs.Stretches.{StretchView}
-use Rattle.protection_zones.specs.declared.stretches.ZoneBox.{ZoneBox}
+use Rattle.zone_stretches.specs.Overlaps.{BoxPlace, Pair, are_compared, share_channel, share_place}
+use Rattle.zone_stretches.specs.Pieces.{motion_at, piece_boxes}
+use Rattle.zone_stretches.specs.Stretches.{StretchView}
+use Rattle.zone_stretches.specs.declared.stretches.ZoneBox.{ZoneBox}
 use Rattle.sync_types.specs.Views.{RunView}
 
 -- ---- tests of all elements

@@ -5,14 +5,14 @@ use Rattle.std.proofs.lemmas.List.{append-nil, drop_all, drop_more}
 use Rattle.std.proofs.lemmas.List.Elements.{All-nil, All-cons, All-head, All-tail, All-append}
 use Rattle.job_types.specs.Job.{JobView}
 use Rattle.met_boxes.proofs.AddLaws.{flat_map_append}
-use Rattle.met_boxes.specs.Ascents.{IsTimed}
 use Rattle.met_boxes.specs.Rows.{RowView, IsRowTimed, pairs_in, row_pairs, rows_by_group, rows_for}
 use Rattle.order_clocks.specs.Clocked.{IsOrderOf}
-use Rattle.protection_zones.specs.Overlaps.{Order, Pair, ZoneTime, compared_pairs, pairs_by_group, pairs_of_zones, zone_times}
-use Rattle.protection_zones.specs.SoundStretches.{HasLowNames}
-use Rattle.protection_zones.specs.Stretches.{StretchView, StretchesView}
 use Rattle.sync_types.specs.Boards.{Board}
 use Rattle.sync_types.specs.Turns.{Move}
+use Rattle.zone_stretches.specs.Ascents.{IsTimed}
+use Rattle.zone_stretches.specs.Overlaps.{Order, Pair, ZoneTime, compared_pairs, pairs_by_group, pairs_of_zones, zone_times}
+use Rattle.zone_stretches.specs.SoundStretches.{HasLowNames}
+use Rattle.zone_stretches.specs.Stretches.{StretchView, StretchesView}
 
 -- one zone more
 pub zone_more : (times : List ZoneTime) (place next : ℕ) (d : ZoneTime) (rows more all : List RowView) → place < length times → next ≡ place + 1

@@ -5,10 +5,10 @@ use Rattle.job_types.specs.Job.{JobView}
 use Rattle.job_types.specs.declared.job.Side.{Side}
 use Rattle.met_boxes.specs.Nearest.{pair_reaches}
 use Rattle.path_geometry.specs.declared.motion.Motion.{Motion}
-use Rattle.protection_zones.specs.Overlaps.{BoxPlace, Pair}
-use Rattle.protection_zones.specs.Pieces.{boxes_in_pieces, motion_at, piece_box, piece_boxes}
 use Rattle.swept_boxes.specs.declared.Box3.{Box3}
 use Rattle.sync_types.specs.Views.{RunView}
+use Rattle.zone_stretches.specs.Overlaps.{BoxPlace, Pair}
+use Rattle.zone_stretches.specs.Pieces.{boxes_in_pieces, motion_at, piece_box, piece_boxes}
 
 some_boxes : (margin : ℤ) (depth : ℕ) (sides : List Side) (cover : Box3) (motion : Option Motion) → 0 < length (boxes_in_pieces margin depth sides cover motion)
 some_boxes margin depth sides cover None = omega arith

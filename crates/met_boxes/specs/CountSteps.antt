@@ -1,9 +1,9 @@
 -- Steps. How many boxes of two stretches are compared.
 use Rattle.std.specs.Prelude.{ℕ, ◌*◌, if◌then◌else◌, List, length, sum_by}
 use Rattle.std.specs.List.{count_by}
-use Rattle.protection_zones.specs.Overlaps.{share_channel, share_place}
-use Rattle.protection_zones.specs.Stretches.{StretchView}
-use Rattle.protection_zones.specs.declared.stretches.ZoneBox.{ZoneBox}
+use Rattle.zone_stretches.specs.Overlaps.{share_channel, share_place}
+use Rattle.zone_stretches.specs.Stretches.{StretchView}
+use Rattle.zone_stretches.specs.declared.stretches.ZoneBox.{ZoneBox}
 
 -- the pairs of boxes with a place in common
 unfoldable pub count_sharing : List ZoneBox → List ZoneBox → ℕ

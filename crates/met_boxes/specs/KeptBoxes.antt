@@ -2,12 +2,12 @@
 use Rattle.std.specs.Prelude.{◌≡◌, ℕ, ◌<◌, List, length, slice_index_or}
 use Rattle.job_types.specs.Job.{JobView}
 use Rattle.job_types.specs.declared.job.ZoneLine.{ZoneLine}
-use Rattle.met_boxes.specs.MeetingSteps.{place_of}
-use Rattle.protection_zones.specs.Pieces.{piece_boxes}
-use Rattle.protection_zones.specs.Stretches.{StretchView}
-use Rattle.protection_zones.specs.declared.stretches.ZoneBox.{ZoneBox}
 use Rattle.swept_boxes.specs.declared.Box3.{Box3}
 use Rattle.sync_types.specs.Views.{RunView}
+use Rattle.zone_stretches.specs.Cases.{place_of}
+use Rattle.zone_stretches.specs.Pieces.{piece_boxes}
+use Rattle.zone_stretches.specs.Stretches.{StretchView}
+use Rattle.zone_stretches.specs.declared.stretches.ZoneBox.{ZoneBox}
 
 -- a box of a stretch, with its place
 pub record IsAt (boxes : List ZoneBox) (place : ℕ) (box : ZoneBox) : Type 0 where

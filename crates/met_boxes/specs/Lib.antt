@@ -1,5 +1,3 @@
-pub mod Times
-pub mod Ascents
 pub mod Rows
 pub mod Meetings
 pub mod MeetingSteps

@@ -1,26 +1,16 @@
 -- Steps. The boxes that meet, stretch by stretch.
 use Rattle.std.specs.Prelude.{◌&&◌, Bool, if◌then◌else◌, List, [], ◌∷◌}
 use Rattle.std.specs.List.{flat_map}
-use Rattle.job_types.specs.Job.{JobView}
 use Rattle.job_types.specs.declared.job.ZoneLine.{ZoneLine}
 use Rattle.met_boxes.specs.Meetings.{told_pair}
 use Rattle.met_boxes.specs.Rows.{RowView}
-use Rattle.protection_zones.specs.Overlaps.{Order, BoxPlace, are_compared, may_overlap}
-use Rattle.protection_zones.specs.Pieces.{pair_meets}
-use Rattle.protection_zones.specs.Stretches.{StretchView}
-use Rattle.protection_zones.specs.declared.stretches.ZoneBox.{ZoneBox}
 use Rattle.swept_boxes.specs.Boxes.{boxes_meet}
-use Rattle.sync_types.specs.Views.{RunView}
 use Rattle.told_places.specs.declared.place.Meeting.{Meeting}
-
--- a job, a run of it, and the order of its events
-pub record Case : Type 0 where
-  pub job : JobView
-  pub run : RunView
-  pub before : Order
-
-abbrev pub place_of : ZoneLine → StretchView → ZoneBox → BoxPlace
-place_of zone stretch box = record { zone = zone; stretch = stretch; box = box }
+use Rattle.zone_stretches.specs.Cases.{Case, place_of}
+use Rattle.zone_stretches.specs.Overlaps.{BoxPlace, are_compared, may_overlap}
+use Rattle.zone_stretches.specs.Pieces.{pair_meets}
+use Rattle.zone_stretches.specs.Stretches.{StretchView}
+use Rattle.zone_stretches.specs.declared.stretches.ZoneBox.{ZoneBox}
 
 -- two boxes are compared, and their covers meet
 abbrev pub may_meet : StretchView → ZoneBox → StretchView → ZoneBox → Bool

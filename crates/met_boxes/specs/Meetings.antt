@@ -1,13 +1,13 @@
 -- Meaning. All boxes of a run that meet.
 use Rattle.std.specs.Prelude.{List, map, filter}
 use Rattle.job_types.specs.Job.{JobView}
-use Rattle.protection_zones.specs.Overlaps.{Order, BoxPlace, Pair, compared_pairs}
-use Rattle.protection_zones.specs.Pieces.{pair_meets}
-use Rattle.protection_zones.specs.Stretches.{StretchView, StretchesView}
-use Rattle.protection_zones.specs.declared.stretches.ZoneBox.{ZoneBox}
 use Rattle.sync_types.specs.Views.{RunView}
 use Rattle.told_places.specs.declared.place.Meeting.{Meeting}
 use Rattle.told_places.specs.declared.place.Place.{Place}
+use Rattle.zone_stretches.specs.Overlaps.{Order, BoxPlace, Pair, compared_pairs}
+use Rattle.zone_stretches.specs.Pieces.{pair_meets}
+use Rattle.zone_stretches.specs.Stretches.{StretchView, StretchesView}
+use Rattle.zone_stretches.specs.declared.stretches.ZoneBox.{ZoneBox}
 
 -- what is told of a box of a stretch: its name is that of its stretch, with the line of the box
 unfoldable pub told_box : StretchView → ZoneBox → Place

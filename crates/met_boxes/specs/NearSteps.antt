@@ -5,15 +5,15 @@ use Rattle.std.specs.List.{flat_map, list_any}
 use Rattle.box_reach.specs.Reaches.{reach_of}
 use Rattle.job_types.specs.Job.{JobView}
 use Rattle.job_types.specs.declared.job.ZoneLine.{ZoneLine}
-use Rattle.met_boxes.specs.MeetingSteps.{place_of}
 use Rattle.met_boxes.specs.Nearest.{AreNearest, groups_of}
 use Rattle.met_boxes.specs.Puts.{put_in}
 use Rattle.met_boxes.specs.declared.nearest.Near.{Near}
-use Rattle.protection_zones.specs.InCovers.{ArePairsInCover}
-use Rattle.protection_zones.specs.Overlaps.{BoxPlace, Pair, are_compared}
-use Rattle.protection_zones.specs.Stretches.{StretchView}
-use Rattle.protection_zones.specs.declared.stretches.ZoneBox.{ZoneBox}
 use Rattle.sync_types.specs.Views.{RunView}
+use Rattle.zone_stretches.specs.Cases.{place_of}
+use Rattle.zone_stretches.specs.InCovers.{ArePairsInCover}
+use Rattle.zone_stretches.specs.Overlaps.{BoxPlace, Pair, are_compared}
+use Rattle.zone_stretches.specs.Stretches.{StretchView}
+use Rattle.zone_stretches.specs.declared.stretches.ZoneBox.{ZoneBox}
 
 -- a pair, where it is compared
 unfoldable pub pair_where : BoxPlace → ZoneLine → StretchView → ZoneBox → List Pair

@@ -6,9 +6,9 @@ use Rattle.job_types.specs.Job.{JobView}
 use Rattle.met_boxes.specs.Meetings.{told_place}
 use Rattle.met_boxes.specs.Puts.{AreApart}
 use Rattle.met_boxes.specs.declared.nearest.Near.{Near}
-use Rattle.protection_zones.specs.Overlaps.{Pair}
-use Rattle.protection_zones.specs.Pieces.{piece_boxes}
 use Rattle.sync_types.specs.Views.{RunView}
+use Rattle.zone_stretches.specs.Overlaps.{Pair}
+use Rattle.zone_stretches.specs.Pieces.{piece_boxes}
 
 -- the groups of two boxes, the lower first
 abbrev pub groups_of : Pair → ℕ × ℕ

@@ -2,9 +2,9 @@
 use Rattle.std.specs.Prelude.{All, List}
 use Rattle.job_types.specs.Job.{JobView}
 use Rattle.met_boxes.specs.Rows.{RowView, IsRowTimed, pairs_in}
-use Rattle.protection_zones.specs.InCovers.{ArePairsInCover}
-use Rattle.protection_zones.specs.Overlaps.{Order}
 use Rattle.sync_types.specs.Views.{RunView}
+use Rattle.zone_stretches.specs.InCovers.{ArePairsInCover}
+use Rattle.zone_stretches.specs.Overlaps.{Order}
 
 pub record AreReady (before : Order) (job : JobView) (run : RunView) (rows : List RowView) : Type 0 where
   pub timed : All (IsRowTimed before) rows

@@ -4,16 +4,16 @@ use Rattle.std.specs.List.{list_all, list_any}
 use Rattle.box_reach.specs.Lots.{reaches}
 use Rattle.job_types.specs.Job.{JobView}
 use Rattle.job_types.specs.declared.job.ZoneLine.{ZoneLine}
-use Rattle.met_boxes.specs.MeetingSteps.{place_of}
+use Rattle.zone_stretches.specs.Cases.{place_of}
 use Rattle.met_boxes.specs.Nearest.{AreNearest}
 use Rattle.met_boxes.specs.NearSteps.{is_as_near}
 use Rattle.met_boxes.specs.declared.nearest.Near.{Near}
 use Rattle.passed_boxes.specs.declared.passed.PassedBox.{PassedBox}
 use Rattle.path_geometry.specs.declared.motion.Motion.{Motion}
-use Rattle.protection_zones.specs.InCovers.{ArePairsInCover}
-use Rattle.protection_zones.specs.Overlaps.{Pair}
-use Rattle.protection_zones.specs.Pieces.{boxes_in_pieces, piece_boxes}
-use Rattle.protection_zones.specs.Stretches.{StretchView}
+use Rattle.zone_stretches.specs.InCovers.{ArePairsInCover}
+use Rattle.zone_stretches.specs.Overlaps.{Pair}
+use Rattle.zone_stretches.specs.Pieces.{boxes_in_pieces, piece_boxes}
+use Rattle.zone_stretches.specs.Stretches.{StretchView}
 use Rattle.swept_boxes.specs.declared.Box3.{Box3}
 use Rattle.sync_types.specs.Views.{RunView}
 

@@ -2,9 +2,9 @@
 use Rattle.std.specs.Prelude.{◌==◌, if◌then◌else◌, List, [], ◌∷◌, ◌++◌}
 use Rattle.std.specs.List.{flat_map}
 use Rattle.job_types.specs.declared.job.ZoneLine.{ZoneLine}
-use Rattle.met_boxes.specs.Ascents.{IsTimed}
-use Rattle.protection_zones.specs.Overlaps.{Order, Pair, ZoneTime, stretch_pairs}
-use Rattle.protection_zones.specs.Stretches.{StretchView}
+use Rattle.zone_stretches.specs.Ascents.{IsTimed}
+use Rattle.zone_stretches.specs.Overlaps.{Order, Pair, ZoneTime, stretch_pairs}
+use Rattle.zone_stretches.specs.Stretches.{StretchView}
 
 -- two zones, each with its stretches
 pub record RowView : Type 0 where

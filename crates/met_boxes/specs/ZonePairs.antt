@@ -7,8 +7,6 @@ use Rattle.job_types.specs.Axes.{is_of}
 use Rattle.job_types.specs.Job.{JobView}
 use Rattle.met_boxes.specs.Groups.{capped}
 use Rattle.met_boxes.specs.Nearest.{pair_reaches}
-use Rattle.protection_zones.specs.Overlaps.{Order, Pair, ZoneTime, pairs_of_zones, zone_times}
-use Rattle.protection_zones.specs.Stretches.{StretchView, StretchesView}
 use Rattle.sync_types.specs.Views.{RunView}
 use Rattle.zone_pairs.specs.Pairs.{pair_of}
 use Rattle.zone_pairs.specs.declared.pairs.Comparison.{Comparison}
@@ -16,6 +14,8 @@ use Rattle.zone_pairs.specs.declared.pairs.Presence.{Presence}
 use Rattle.zone_pairs.specs.declared.pairs.Presence.TheVariants.{Never, HeldBy, Changing}
 use Rattle.zone_pairs.specs.declared.pairs.ZoneFacts.{ZoneFacts}
 use Rattle.zone_pairs.specs.declared.pairs.ZonePair.{ZonePair}
+use Rattle.zone_stretches.specs.Overlaps.{Order, Pair, ZoneTime, pairs_of_zones, zone_times}
+use Rattle.zone_stretches.specs.Stretches.{StretchView, StretchesView}
 
 -- ---- when a zone is on
 

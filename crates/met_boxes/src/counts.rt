@@ -1,20 +1,20 @@
 //! How many boxes of two zones are compared.
 ghost use Rattle.std.specs.Prelude.{◌≡◌, ◌∷◌, [], Bool, true, All, length};
 ghost use Rattle.std.specs.List.{count_by, flat_map};
-ghost use Rattle.met_boxes.specs.Ascents.{IsTimed, PassFirst, passes};
 ghost use Rattle.met_boxes.specs.CountSteps as steps;
 ghost use Rattle.met_boxes.specs.Groups.{capped};
 ghost use Rattle.met_boxes.specs.Rows.{IsRowTimed, pairs_in, row_pairs};
 ghost use Rattle.order_clocks.specs.Tells.{is_before_in};
-ghost use Rattle.protection_zones.specs.Overlaps.{share_place, stretch_pairs};
+ghost use Rattle.zone_stretches.specs.Ascents.{IsTimed, PassFirst, passes};
+ghost use Rattle.zone_stretches.specs.Overlaps.{share_place, stretch_pairs};
 
-use crate::ascents::{Range, do_ascend, near_part};
 use crate::meetings::Held;
-use crate::overlaps::{may_overlap, share_channel, share_place};
 use crate::rows::Row;
 use job_types::ZoneLine;
 use order_clocks::Clocks;
-use protection_zones::{Stretch, ZoneBox};
+use zone_stretches::{
+    Range, Stretch, ZoneBox, do_ascend, may_overlap, near_part, share_channel, share_place,
+};
 
 /// With how many of these a box holds a place in common.
 fn count_near(own: &ZoneBox, laters: &[ZoneBox]) -> u64

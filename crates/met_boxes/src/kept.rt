@@ -4,17 +4,17 @@ ghost use Rattle.job_lines.specs.declared.limits.TheConstants.{DEPTH_LIMIT};
 ghost use Rattle.job_types.specs.Job.{JobView};
 ghost use Rattle.job_types.specs.declared.job.ZoneLine.{ZoneLine};
 ghost use Rattle.met_boxes.specs.KeptBoxes.{AreKept, IsAt, IsKeptAt};
-ghost use Rattle.met_boxes.specs.MeetingSteps.{place_of};
-ghost use Rattle.protection_zones.specs.Pieces.{piece_boxes};
-ghost use Rattle.protection_zones.specs.Stretches.{StretchView};
-ghost use Rattle.protection_zones.specs.ZoneBoxes.{IsFit};
 ghost use Rattle.swept_boxes.specs.declared.Box3.{Box3};
 ghost use Rattle.sync_types.specs.Views.{RunView};
+ghost use Rattle.zone_stretches.specs.Cases.{place_of};
+ghost use Rattle.zone_stretches.specs.Pieces.{piece_boxes};
+ghost use Rattle.zone_stretches.specs.Stretches.{StretchView};
+ghost use Rattle.zone_stretches.specs.ZoneBoxes.{IsFit};
 
 use crate::meetings::{Held, Scene};
 use box_reach::PartedLot;
-use protection_zones::{ZoneBox, boxes_by_pieces};
 use std::alloc::{AllocError, Global};
+use zone_stretches::{ZoneBox, boxes_by_pieces};
 
 /// Of how many boxes of a stretch at most those by which they are compared are kept. They take 3,200 bytes for each box at the most,
 /// so 27 MB.

@@ -2,13 +2,11 @@
 //! boxes of two groups, and of two zones, come.
 #![tactic(auto)]
 
-mod ascents;
 mod counts;
 mod groups;
 mod kept;
 mod meetings;
 mod nearest;
-mod overlaps;
 mod pairs;
 mod rows;
 

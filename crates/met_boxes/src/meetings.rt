@@ -4,31 +4,33 @@ ghost use Rattle.std.specs.List.{flat_map, list_any};
 ghost use Rattle.box_reach.specs.Lots.{lots_meet};
 ghost use Rattle.job_lines.specs.declared.limits.TheConstants.{DEPTH_LIMIT};
 ghost use Rattle.job_types.specs.SoundJob.{IsSoundJob};
-ghost use Rattle.met_boxes.specs.Ascents.{IsTimed, PassFirst, passes};
+ghost use Rattle.zone_stretches.specs.Ascents.{IsTimed, PassFirst, passes};
 ghost use Rattle.met_boxes.specs.KeptBoxes.{AreKept, IsAt};
 ghost use Rattle.met_boxes.specs.Meetings.{meetings_of, told_box, told_pair};
 ghost use Rattle.met_boxes.specs.MeetingSteps as model;
 ghost use Rattle.met_boxes.specs.Rows.{IsRowTimed};
 ghost use Rattle.order_clocks.specs.Tells.{is_before_in};
-ghost use Rattle.protection_zones.specs.Pieces.{piece_boxes};
-ghost use Rattle.protection_zones.specs.Told.{IsTold};
-ghost use Rattle.protection_zones.specs.ZoneBoxes.{IsFit};
+ghost use Rattle.zone_stretches.specs.Cases.{place_of};
+ghost use Rattle.zone_stretches.specs.Pieces.{piece_boxes};
+ghost use Rattle.zone_stretches.specs.Told.{IsTold};
+ghost use Rattle.zone_stretches.specs.ZoneBoxes.{IsFit};
 ghost use Rattle.swept_boxes.specs.Boxes.{boxes_meet};
 
-use crate::ascents::{Range, do_ascend, near_part};
 use crate::kept::{are_kept, keep_at, kept_at, lot_of};
-use crate::overlaps::{are_compared, may_overlap, share_channel};
 use crate::rows::{Row, rows_of, times_of};
 use axis_sets::{ChannelId, ZoneId};
 use box_reach::PartedLot;
 use job_types::{Job, ZoneLine};
 use order_clocks::Clocks;
 use out_of_memory::NoMemory;
-use protection_zones::{Stretch, Stretches, ZoneBox};
 use std::alloc::{AllocError, Global};
 use swept_boxes::Box3;
 use sync_types::{EventId, PlaceName, Run, StretchKind};
 use told_places::{Meeting, Place};
+use zone_stretches::{
+    Range, Stretch, Stretches, ZoneBox, are_compared, do_ascend, may_overlap, near_part,
+    share_channel,
+};
 
 /// A job with a run of it and the order of its events.
 #[derive(Clone, Copy)]
@@ -76,8 +78,8 @@ pub fn told_box(stretch: &Stretch, own: &ZoneBox) -> Place
 /// What is told of a box of each of two stretches.
 fn told_pair(left: &Held, own: &ZoneBox, right: &Held, later: &ZoneBox) -> Meeting
     ensures { result ≡ told_pair (
-      model.place_of left.now.zone.now left.now.stretch.now own.now,
-      model.place_of
+      place_of left.now.zone.now left.now.stretch.now own.now,
+      place_of
           right.now.zone.now right.now.stretch.now later.now,
     ) }
 {
@@ -137,8 +139,8 @@ fn add_by_pieces(
 ) -> Result<(), AllocError>
     ensures { OnOk result (list.new.items ≡ list.old.items
         ++ (if lots_meet pieces.now others.now then told_pair (
-          model.place_of left.now.zone.now left.now.stretch.now own.now,
-          model.place_of right.now.zone.now
+          place_of left.now.zone.now left.now.stretch.now own.now,
+          place_of right.now.zone.now
               right.now.stretch.now later.now,
         ) ∷ [] else [])) }
 {
@@ -164,7 +166,7 @@ fn add_one(
     requires fit { All (All IsFit) scene.now.run.now.items }
     requires deep { scene.now.job.now.depth ≤ DEPTH_LIMIT }
     requires pieces { pieces.now ≡ piece_boxes scene.now.job.now scene.now.run.now
-        (model.place_of left.now.zone.now left.now.stretch.now own.now) }
+        (place_of left.now.zone.now left.now.stretch.now own.now) }
     requires later { IsAt right.now.stretch.now.boxes place later.now }
     requires kept { AreKept scene.now.job.now scene.now.run.now right.now.zone.now
         right.now.stretch.now kept.old.items }
@@ -176,7 +178,7 @@ fn add_one(
           run = scene.now.run.now;
           before = is_before_in scene.now.clocks.now.rows;
         })
-        (model.place_of left.now.zone.now left.now.stretch.now own.now) right.now.zone.now
+        (place_of left.now.zone.now left.now.stretch.now own.now) right.now.zone.now
         right.now.stretch.now later.now) }
 {
     if !may_meet(left, own, right, later) {
@@ -207,7 +209,7 @@ fn add_each(
     requires fit { All (All IsFit) scene.now.run.now.items }
     requires deep { scene.now.job.now.depth ≤ DEPTH_LIMIT }
     requires pieces { pieces.now ≡ piece_boxes scene.now.job.now scene.now.run.now
-        (model.place_of left.now.zone.now left.now.stretch.now own.now) }
+        (place_of left.now.zone.now left.now.stretch.now own.now) }
     requires laters { laters.now ≡ right.now.stretch.now.boxes }
     requires kept { AreKept scene.now.job.now scene.now.run.now right.now.zone.now
         right.now.stretch.now kept.old.items }
@@ -219,7 +221,7 @@ fn add_each(
           run = scene.now.run.now;
           before = is_before_in scene.now.clocks.now.rows;
         })
-        (model.place_of left.now.zone.now left.now.stretch.now own.now) right.now.zone.now
+        (place_of left.now.zone.now left.now.stretch.now own.now) right.now.zone.now
         right.now.stretch.now) laters.now) }
 {
     for place in 0..laters.len() {
@@ -250,7 +252,7 @@ fn add_by(
           run = scene.now.run.now;
           before = is_before_in scene.now.clocks.now.rows;
         }) right.now.zone.now right.now.stretch.now
-        (model.place_of left.now.zone.now left.now.stretch.now own.now)) }
+        (place_of left.now.zone.now left.now.stretch.now own.now)) }
 {
     let other = right.stretch;
     let laters = other.boxes.as_slice();
@@ -283,7 +285,7 @@ fn add_owns(
           run = scene.now.run.now;
           before = is_before_in scene.now.clocks.now.rows;
         }) right.now.zone.now right.now.stretch.now
-        (model.place_of left.now.zone.now left.now.stretch.now own)) owns.now) }
+        (place_of left.now.zone.now left.now.stretch.now own)) owns.now) }
 {
     for own in owns {
         add_by(list, kept, scene, left, own, right)?;

@@ -4,25 +4,23 @@ ghost use Rattle.std.specs.List.{Any, flat_map, list_any};
 ghost use Rattle.job_lines.specs.declared.limits.TheConstants.{DEPTH_LIMIT};
 ghost use Rattle.job_types.specs.Job.{JobView};
 ghost use Rattle.job_types.specs.SoundJob.{IsSoundJob};
-ghost use Rattle.met_boxes.specs.Ascents.{IsTimed, PassFirst, passes};
+ghost use Rattle.zone_stretches.specs.Ascents.{IsTimed, PassFirst, passes};
 ghost use Rattle.met_boxes.specs.KeptBoxes.{AreKept, IsAt};
 ghost use Rattle.met_boxes.specs.Meetings.{told_place};
-ghost use Rattle.met_boxes.specs.MeetingSteps.{place_of};
+ghost use Rattle.zone_stretches.specs.Cases.{place_of};
 ghost use Rattle.met_boxes.specs.Nearest as model;
 ghost use Rattle.met_boxes.specs.NearSteps as steps;
 ghost use Rattle.met_boxes.specs.PassedOwns.{AreLookedAt};
 ghost use Rattle.met_boxes.specs.Rows.{IsRowTimed, pairs_in, row_pairs};
 ghost use Rattle.order_clocks.specs.Tells.{is_before_in};
-ghost use Rattle.protection_zones.specs.Overlaps.{Pair, compared_pairs, stretch_pairs};
-ghost use Rattle.protection_zones.specs.Pieces.{piece_boxes};
-ghost use Rattle.protection_zones.specs.Told.{IsTold};
-ghost use Rattle.protection_zones.specs.ZoneBoxes.{IsFit};
+ghost use Rattle.zone_stretches.specs.Overlaps.{Pair, compared_pairs, stretch_pairs};
+ghost use Rattle.zone_stretches.specs.Pieces.{piece_boxes};
+ghost use Rattle.zone_stretches.specs.Told.{IsTold};
+ghost use Rattle.zone_stretches.specs.ZoneBoxes.{IsFit};
 ghost use Rattle.sync_types.specs.Views.{RunView};
 
-use crate::ascents::{Range, do_ascend, near_part};
 use crate::kept::{are_kept, keep_at, kept_at, lot_of};
 use crate::meetings::{Held, Scene, told_box};
-use crate::overlaps::{are_compared, may_overlap, share_channel};
 use crate::rows::{Row, rows_of, times_of};
 use axis_sets::{ChannelId, ZoneId};
 use box_reach::{PartedLot, least_way};
@@ -30,11 +28,14 @@ use job_types::{Job, ZoneLine};
 use order_clocks::Clocks;
 use out_of_memory::NoMemory;
 use passed_boxes::PassedBoxes;
-use protection_zones::{Stretch, Stretches, ZoneBox, motion_at};
 use std::alloc::{AllocError, Global};
 use swept_boxes::Box3;
 use sync_types::{EventId, Run, StretchKind};
 use told_places::Place;
+use zone_stretches::{
+    Range, Stretch, Stretches, ZoneBox, are_compared, do_ascend, may_overlap, motion_at, near_part,
+    share_channel,
+};
 
 /// The two compared boxes of two groups that come nearest to each other.
 #[derive(Clone, Copy)]

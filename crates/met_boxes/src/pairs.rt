@@ -8,22 +8,21 @@ ghost use Rattle.met_boxes.specs.PairSteps.{AreReady};
 ghost use Rattle.met_boxes.specs.Rows.{pairs_in, rows_by_group, rows_for};
 ghost use Rattle.met_boxes.specs.ZonePairs as model;
 ghost use Rattle.order_clocks.specs.Tells.{is_before_in};
-ghost use Rattle.protection_zones.specs.Told.{IsTold};
-ghost use Rattle.protection_zones.specs.ZoneBoxes.{IsFit};
+ghost use Rattle.zone_stretches.specs.Told.{IsTold};
+ghost use Rattle.zone_stretches.specs.ZoneBoxes.{IsFit};
 
 use crate::counts::count_in;
 use crate::meetings::Scene;
 use crate::nearest::{Near, nearest_in};
-use crate::overlaps::is_of;
 use crate::rows::{Time, add_zones, rest, times_of};
 use axis_sets::{ChannelId, ZoneId};
 use job_types::Job;
 use order_clocks::Clocks;
 use out_of_memory::NoMemory;
-use protection_zones::{Stretch, Stretches};
 use std::alloc::{AllocError, Global};
 use sync_types::Run;
 use zone_pairs::{Absent, Comparison, PairKind, Presence, ZoneFacts, ZonePair};
+use zone_stretches::{Stretch, Stretches, is_of};
 
 /// Whether a zone is on in a stretch.
 fn is_on(stretch: &Stretch) -> bool

@@ -2,14 +2,14 @@
 ghost use Rattle.std.specs.Prelude.{◌≡◌, ◌≤◌, ◌++◌, IfOk, OnOk, drop, length};
 ghost use Rattle.std.specs.List.{flat_map};
 ghost use Rattle.met_boxes.specs.Rows as model;
-ghost use Rattle.met_boxes.specs.Times.{lists_in, times_from};
-ghost use Rattle.protection_zones.specs.Overlaps.{zone_times};
+ghost use Rattle.zone_stretches.specs.Overlaps.{zone_times};
+ghost use Rattle.zone_stretches.specs.Times.{lists_in, times_from};
 
 use job_types::{Job, ZoneLine};
 use out_of_memory::NoMemory;
-use protection_zones::{Stretch, Stretches, zone_at};
 use std::alloc::{AllocError, Global};
 use std::marker::Model;
+use zone_stretches::{Stretch, Stretches, lists_of, zone_at};
 
 /// A zone with its stretches.
 #[derive(Drop)]
@@ -21,7 +21,7 @@ pub(crate) struct Time<'a> {
 }
 
 impl<'a> Model for Time<'a> {
-    ghost use Rattle.protection_zones.specs.Overlaps.{ZoneTime};
+    ghost use Rattle.zone_stretches.specs.Overlaps.{ZoneTime};
 
     ghost Value = { ZoneTime };
 
@@ -47,13 +47,6 @@ impl<'a> Model for Row<'a> {
     ghost Value = { RowView };
 
     ghost view = { λ r. record { zone = r.zone.now; owns = r.owns.now; other = r.other.now; others = r.others.now } };
-}
-
-/// The stretches of all zones.
-fn lists_of(stretches: &Stretches) -> &[Vec<Stretch>]
-    ensures { lists_in result.now ≡ stretches.now.zones }
-{
-    stretches.zones.as_slice()
 }
 
 /// The zones of a job, each with its stretches, as far as there are both.

@@ -1,21 +1,15 @@
 -- The boxes of a zone as the code makes them are those of the walk.
-use Rattle.std.proofs.Common.{◌≡◌, ℕ, suc, ℤ, ◌+◌, ◌<◌, ◌++◌, Bool, true, false, List, [], ◌∷◌, map, Option, Some, None, refl, sym, ap, ◌∙◌, w32, length, drop, get_or, add-one}
+use Rattle.std.proofs.Common.{◌≡◌, ℕ, suc, ℤ, ◌+◌, ◌<◌, ◌++◌, Bool, true, false, List, [], ◌∷◌, map, Option, Some, None, refl, sym, ap, ◌∙◌, length, drop, get_or, add-one}
 use Rattle.std.proofs.Math.Seq.{drop-cons, drop-length}
-use Rattle.std.proofs.lemmas.Int.{to_z-of_z}
 use Rattle.std.specs.Option.{option_to_list}
 use mathlib.Core.Path.{fun_ext}
-use mir.Val.{to_z, of_z, SFits}
 use Rattle.job_types.specs.declared.job.ZoneLine.{ZoneLine}
 use Rattle.protection_zones.specs.Sweeps.{standing_box, moving_box, box_until, ended_before, opened_after, sweep, opened_at_first}
-use Rattle.protection_zones.specs.ZoneBoxes.{stand_after, Opened, Shut, Waiting, Moving, closed, closed_before, next_open, walk, boxes_of, seen, shown_box}
-use Rattle.protection_zones.specs.declared.sights.Sight.{Sight}
-use Rattle.protection_zones.specs.declared.sights.Sight.TheVariants.{Nothing, Turns, Moves}
-use Rattle.protection_zones.specs.declared.stretches.ZoneBox.{ZoneBox}
 use Rattle.sync_types.specs.declared.Item.{Item}
-
--- a signed number that is stored keeps its value
-pub stored : (z v : ℤ) → SFits w32 z → z ≡ v → to_z w32 (of_z w32 z) ≡ v
-stored z v fits e = to_z-of_z w32 z fits ∙ e
+use Rattle.zone_stretches.specs.ZoneBoxes.{stand_after, Opened, Shut, Waiting, Moving, closed, closed_before, next_open, walk, boxes_of, seen, shown_box}
+use Rattle.zone_stretches.specs.declared.sights.Sight.{Sight}
+use Rattle.zone_stretches.specs.declared.sights.Sight.TheVariants.{Nothing, Turns, Moves}
+use Rattle.zone_stretches.specs.declared.stretches.ZoneBox.{ZoneBox}
 
 -- what is open, as the code has it
 abbrev shown_open : ℤ → ZoneLine → Opened → Option ZoneBox

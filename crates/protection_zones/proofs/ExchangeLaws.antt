@@ -8,11 +8,12 @@ use Rattle.job_types.specs.Job.{JobView}
 use Rattle.job_types.specs.declared.job.ZoneLine.{ZoneLine}
 use Rattle.protection_zones.specs.Exchanges.{AreExchanges, HandOver, count_in, counts_in, shown_exchange, tenure_from, tenures_then}
 use Rattle.protection_zones.specs.Notes.{shown_note}
-use Rattle.protection_zones.specs.Occurrences.{Occurrence}
-use Rattle.protection_zones.specs.Tenures.{Tenure, carry, changes_hands, counted, first_tenure, tenures_from, tenures_of}
+use Rattle.zone_stretches.specs.Occurrences.{Occurrence}
+use Rattle.zone_stretches.specs.Tenures.{Tenure, carry, changes_hands, counted, first_tenure, tenures_from, tenures_of}
 use Rattle.protection_zones.specs.declared.exchanges.Exchange.{Exchange}
 use Rattle.protection_zones.specs.declared.notes.Note.{Note}
-use Rattle.protection_zones.proofs.TenureLaws.{carry_none, changes_alike}
+use Rattle.zone_stretches.proofs.HandLaws.{carry_none}
+use Rattle.protection_zones.proofs.TenureLaws.{changes_alike}
 
 -- ---- how many events of each channel have been
 

@@ -9,8 +9,8 @@ use Rattle.axis_sets.specs.declared.limits.TheConstants.{CHANNEL_PLACES}
 use Rattle.job_types.specs.Job.{JobView}
 use Rattle.protection_zones.specs.Beginnings.{AreOutsets, beginnings_from, outsets_in, shown_outset}
 use Rattle.protection_zones.specs.Exchanges.{count_in, counts_in}
-use Rattle.protection_zones.specs.Occurrences.{Occurrence}
-use Rattle.protection_zones.specs.Spans.{first_beginning}
+use Rattle.zone_stretches.specs.Occurrences.{Occurrence}
+use Rattle.zone_stretches.specs.Spans.{first_beginning}
 use Rattle.protection_zones.specs.declared.spans.Outset.{Outset}
 use Rattle.protection_zones.proofs.ExchangeLaws.{count_last}
 use Rattle.protection_zones.proofs.SpanLaws.{other_last, outsets_size, own_last, take_more}

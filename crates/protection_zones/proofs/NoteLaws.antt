@@ -22,7 +22,7 @@ use Rattle.order_clocks.proofs.ReadLaws.{started_waits}
 use Rattle.order_clocks.proofs.TellLaws.{going_some, going_within}
 use Rattle.order_clocks.proofs.WholeLaws.{entry_at, board_zero, moves_size, read_step as step_read}
 use Rattle.protection_zones.specs.Notes.{entry_in, is_with, kind_of_act, lowest_of, no_entry, read_act, read_going, read_step, shown_note, took_in}
-use Rattle.protection_zones.specs.Occurrences.{act_of, going_on_of, kind_after_act, kind_in, lowest_of_event, occurrences_from, occurrences_in, occurrences_of}
+use Rattle.zone_stretches.specs.Occurrences.{act_of, going_on_of, kind_after_act, kind_in, lowest_of_event, occurrences_from, occurrences_in, occurrences_of}
 use Rattle.sync_types.proofs.BoardTests.{no_truth, among_kept}
 use Rattle.sync_types.specs.BoardActions.{after_own_part, after_part, after_effects, channels_started, state_of_actor, state_after_action, state_after_alarm}
 use Rattle.sync_types.specs.BoardAlarms.{alarm_of}

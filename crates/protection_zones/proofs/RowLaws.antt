@@ -10,10 +10,10 @@ use Rattle.job_types.specs.Axes.{start_position}
 use Rattle.job_types.specs.Job.{JobView}
 use Rattle.job_types.specs.declared.job.AxisLine.{AxisLine}
 use Rattle.path_geometry.specs.Motions.{axes_of}
-use Rattle.protection_zones.specs.Rows.{positions_in}
-use Rattle.protection_zones.specs.ZoneBoxes.{stand_after}
 use Rattle.sync_types.specs.Items.{movement_of}
 use Rattle.sync_types.specs.declared.Item.{Item}
+use Rattle.zone_stretches.specs.Rows.{positions_in}
+use Rattle.zone_stretches.specs.ZoneBoxes.{stand_after}
 
 below_or_not : (a b : ℕ) → (a ≤ b) ⊎ (b < a)
 below_or_not a b = grind arith

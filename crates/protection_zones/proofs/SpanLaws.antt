@@ -13,10 +13,10 @@ use Rattle.axis_sets.specs.declared.limits.TheConstants.{CHANNEL_PLACES}
 use Rattle.job_types.specs.Axes.{start_position}
 use Rattle.job_types.specs.Job.{JobView}
 use Rattle.protection_zones.specs.Beginnings.{AreOutsets, beginnings_from, end_of, first_in, items_until, outsets_in, shown_outset, span_at, spans_along}
-use Rattle.protection_zones.specs.Occurrences.{Occurrence}
-use Rattle.protection_zones.specs.Rows.{positions_in}
-use Rattle.protection_zones.specs.Stretches.{spans_between}
-use Rattle.protection_zones.specs.Spans.{Beginning, Span, beginning_after, first_beginning, is_on_at_first, spans_from, spans_of, starts_at_first}
+use Rattle.zone_stretches.specs.Occurrences.{Occurrence}
+use Rattle.zone_stretches.specs.Rows.{positions_in}
+use Rattle.zone_stretches.specs.Stretches.{spans_between}
+use Rattle.zone_stretches.specs.Spans.{Beginning, Span, beginning_after, first_beginning, is_on_at_first, spans_from, spans_of, starts_at_first}
 use Rattle.protection_zones.specs.declared.spans.Outset.{Outset}
 use Rattle.sync_types.specs.declared.Item.{Item}
 use Rattle.sync_types.specs.declared.runs.EventId.{EventId}

@@ -1,35 +1,23 @@
 -- The tenures of a zone as the code keeps them.
-use Rattle.std.proofs.Common.{◌≡◌, ℕ, ℤ, ◌+◌, ◌<◌, ◌||◌, Bool, true, false, cond, List, [], ◌∷◌, length, map, drop, get_or, Option, Some, None, refl, sym, add-one}
+use Rattle.std.proofs.Common.{◌≡◌, ℕ, ℤ, ◌+◌, ◌<◌, ◌||◌, Bool, true, false, cond, List, ◌∷◌, length, map, drop, get_or, Option, Some, None, refl, sym, add-one}
 use Rattle.std.specs.Prelude.{unwrap_or}
-use Rattle.std.specs.List.{list_any}
 use Rattle.std.specs.Option.{option_map_or}
 use Rattle.std.proofs.Math.Seq.{drop-cons}
 use mathlib.Core.Path.{fun_ext}
 use Rattle.axis_sets.specs.Positions.{stands}
 use Rattle.axis_sets.specs.Sets.{has}
-use Rattle.job_types.specs.declared.job.Side.{Side}
 use Rattle.job_types.specs.declared.job.ZoneLine.{ZoneLine}
 use Rattle.protection_zones.specs.Exchanges.{HandOver, counts_in, shown_exchange, tenure_from, tenures_then}
 use Rattle.protection_zones.specs.Notes.{shown_note}
-use Rattle.protection_zones.specs.Occurrences.{Occurrence}
-use Rattle.protection_zones.specs.Rows.{positions_in}
-use Rattle.protection_zones.specs.Tenures.{Tenure, carry, changes_hands, is_carried_by, tenure_until}
 use Rattle.protection_zones.specs.Terms.{changes, shown_term}
 use Rattle.protection_zones.specs.declared.exchanges.Exchange.{Exchange}
 use Rattle.protection_zones.specs.declared.notes.Note.{Note}
 use Rattle.protection_zones.specs.declared.tenures.Term.{Term}
 use Rattle.sync_types.specs.declared.runs.EventId.{EventId}
-
-carries_none : (carrier : Option (ℕ × Bool)) → is_carried_by (λ axis. false) carrier ≡ false
-carries_none None = refl
-carries_none (Some carrier) = refl
-
-any_none : (sides : List Side) → list_any (λ side. is_carried_by (λ axis. false) side.carrier) sides ≡ false
-any_none [] = refl
-any_none (side ∷ sides) = rw (carries_none side.carrier) (any_none sides)
-
-pub carry_none : (zone : ZoneLine) → carry zone (λ axis. false) ≡ false
-carry_none zone = any_none zone.sides
+use Rattle.zone_stretches.proofs.HandLaws.{carry_none}
+use Rattle.zone_stretches.specs.Occurrences.{Occurrence}
+use Rattle.zone_stretches.specs.Rows.{positions_in}
+use Rattle.zone_stretches.specs.Tenures.{Tenure, carry, changes_hands, tenure_until}
 
 or_false : (b : Bool) → (b || false) ≡ b
 or_false true = refl

@@ -4,9 +4,9 @@ use Rattle.std.specs.Global.{Global}
 use Rattle.axis_sets.specs.declared.limits.TheConstants.{CHANNEL_PLACES}
 use Rattle.job_types.specs.Job.{JobView}
 use Rattle.axis_sets.specs.Sets.{has}
-use Rattle.protection_zones.specs.Occurrences.{Occurrence}
-use Rattle.protection_zones.specs.Rows.{positions_in}
-use Rattle.protection_zones.specs.Spans.{Beginning, Span, beginning_after, entry_of_beginning, first_beginning}
+use Rattle.zone_stretches.specs.Occurrences.{Occurrence}
+use Rattle.zone_stretches.specs.Rows.{positions_in}
+use Rattle.zone_stretches.specs.Spans.{Beginning, Span, beginning_after, entry_of_beginning, first_beginning}
 use Rattle.protection_zones.specs.declared.spans.Outset.{Outset}
 use Rattle.sync_types.specs.declared.Item.{Item}
 use Rattle.sync_types.specs.declared.runs.EventId.{EventId}

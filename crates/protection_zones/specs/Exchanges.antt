@@ -2,9 +2,9 @@
 use Rattle.std.specs.Prelude.{◌≡◌, ℕ, ◌==◌, List, [], ◌∷◌, ◌++◌, filter, length, slice_index, if◌then◌else◌}
 use Rattle.job_types.specs.declared.job.ZoneLine.{ZoneLine}
 use Rattle.protection_zones.specs.Notes.{shown_note}
-use Rattle.protection_zones.specs.Occurrences.{Occurrence}
-use Rattle.protection_zones.specs.Tenures.{Tenure, changes_hands, tenure_after, tenure_until, tenures_from}
 use Rattle.protection_zones.specs.declared.exchanges.Exchange.{Exchange}
+use Rattle.zone_stretches.specs.Occurrences.{Occurrence}
+use Rattle.zone_stretches.specs.Tenures.{Tenure, changes_hands, tenure_after, tenure_until, tenures_from}
 
 -- how many events of each channel have been
 abbrev pub counts_in : List ℕ → ℕ → ℕ

@@ -4,8 +4,8 @@ use Rattle.axis_sets.specs.declared.limits.TheConstants.{CHANNEL_PLACES}
 use Rattle.job_types.specs.Job.{JobView}
 use Rattle.protection_zones.specs.Beginnings.{AreOutsets}
 use Rattle.protection_zones.specs.Exchanges.{AreExchanges, count_in, counts_in, shown_exchange}
-use Rattle.protection_zones.specs.Occurrences.{Occurrence}
 use Rattle.protection_zones.specs.declared.logs.Log.{Log}
+use Rattle.zone_stretches.specs.Occurrences.{Occurrence}
 
 pub record IsLog (job : JobView) (os : List Occurrence) (log : Log) : Type 0 where
   pub size : length log.outsets.items ≡ CHANNEL_PLACES

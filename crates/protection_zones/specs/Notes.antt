@@ -5,7 +5,7 @@ use Rattle.step_deeds.specs.Holds.{departure_of, goes_in}
 use Rattle.step_deeds.specs.declared.deed.Deed.{Deed}
 use Rattle.step_deeds.specs.declared.deed.Departure.{Departure}
 use Rattle.order_clocks.specs.declared.step_reader.ReadStep.{ReadStep}
-use Rattle.protection_zones.specs.Occurrences.{Occurrence}
+use Rattle.zone_stretches.specs.Occurrences.{Occurrence}
 use Rattle.protection_zones.specs.declared.notes.Note.{Note}
 use Rattle.sync_types.specs.Boards.{channel_numbers}
 use Rattle.sync_types.specs.GoingOn.{first_of}

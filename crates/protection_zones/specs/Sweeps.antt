@@ -2,11 +2,11 @@
 use Rattle.std.specs.Prelude.{ℕ, suc, ℤ, Bool, true, false, is_some, if◌then◌else◌, List, [], ◌∷◌, ◌++◌, Option, Some, None}
 use Rattle.std.specs.Option.{option_to_list}
 use Rattle.job_types.specs.declared.job.ZoneLine.{ZoneLine}
-use Rattle.protection_zones.specs.ZoneBoxes.{cover_during, seen, stand_after}
-use Rattle.protection_zones.specs.declared.sights.Sight.{Sight}
-use Rattle.protection_zones.specs.declared.sights.Sight.TheVariants.{Nothing, Turns, Moves}
-use Rattle.protection_zones.specs.declared.stretches.ZoneBox.{ZoneBox}
 use Rattle.sync_types.specs.declared.Item.{Item}
+use Rattle.zone_stretches.specs.ZoneBoxes.{cover_during, seen, stand_after}
+use Rattle.zone_stretches.specs.declared.sights.Sight.{Sight}
+use Rattle.zone_stretches.specs.declared.sights.Sight.TheVariants.{Nothing, Turns, Moves}
+use Rattle.zone_stretches.specs.declared.stretches.ZoneBox.{ZoneBox}
 
 -- a box that stands from a place on, and one of a motion
 unfoldable pub standing_box : ℤ → ZoneLine → ℕ → ℕ → (ℕ → ℤ) → ZoneBox

@@ -2,11 +2,11 @@
 use Rattle.std.specs.Prelude.{Bool}
 use Rattle.axis_sets.specs.Sets.{has}
 use Rattle.job_types.specs.declared.job.ZoneLine.{ZoneLine}
-use Rattle.protection_zones.specs.Rows.{positions_in}
-use Rattle.protection_zones.specs.Tenures.{Tenure, carry}
 use Rattle.protection_zones.specs.declared.notes.Note.{Note}
 use Rattle.protection_zones.specs.declared.tenures.Term.{Term}
 use Rattle.sync_types.specs.declared.verdicts.StretchKind.TheVariants.{Free}
+use Rattle.zone_stretches.specs.Rows.{positions_in}
+use Rattle.zone_stretches.specs.Tenures.{Tenure, carry}
 
 abbrev pub shown_term : Term → Tenure
 shown_term t = record {

@@ -2,7 +2,7 @@
 ghost use Rattle.std.specs.Prelude.{◌≡◌, ℕ, suc, ◌++◌, ◌∷◌, [], List, OnOk, map};
 ghost use Rattle.protection_zones.specs.Exchanges.{AreExchanges, count_in, counts_in, shown_exchange};
 ghost use Rattle.protection_zones.specs.Notes.{shown_note};
-ghost use Rattle.protection_zones.specs.Occurrences.{Occurrence};
+ghost use Rattle.zone_stretches.specs.Occurrences.{Occurrence};
 
 use crate::notes::Note;
 use axis_sets::{CHANNEL_PLACES, Positions};

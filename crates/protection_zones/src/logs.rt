@@ -7,8 +7,8 @@ ghost use Rattle.order_clocks.specs.Stops.{IsWhole};
 ghost use Rattle.protection_zones.specs.Exchanges.{counts_in};
 ghost use Rattle.protection_zones.specs.Logs.{IsLog};
 ghost use Rattle.protection_zones.specs.Notes.{read_going, read_step, shown_note};
-ghost use Rattle.protection_zones.specs.Occurrences.{Occurrence, occurrences_of};
 ghost use Rattle.sync_types.specs.Boards.{Board};
+ghost use Rattle.zone_stretches.specs.Occurrences.{Occurrence, occurrences_of};
 
 use crate::exchanges::{Exchange, add_exchange};
 use crate::notes::{Note, act_note, going_note};

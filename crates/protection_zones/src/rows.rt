@@ -4,9 +4,9 @@ ghost use Rattle.axis_sets.specs.Positions.{position_of, stands};
 ghost use Rattle.axis_sets.specs.declared.limits.TheConstants.{AXIS_LIMIT};
 ghost use Rattle.job_types.specs.Axes.{start_position};
 ghost use Rattle.path_geometry.specs.Motions.{axes_of};
-ghost use Rattle.protection_zones.specs.Rows.{positions_in};
-ghost use Rattle.protection_zones.specs.ZoneBoxes.{stand_after};
 ghost use Rattle.sync_types.specs.Items.{movement_of};
+ghost use Rattle.zone_stretches.specs.Rows.{positions_in};
+ghost use Rattle.zone_stretches.specs.ZoneBoxes.{stand_after};
 
 use axis_sets::{AXIS_LIMIT, AxisId, Positions};
 use job_types::{Job, start_position};
@@ -65,7 +65,7 @@ fn end_of(ends: &[(AxisId, Um, Um)], axis: AxisId) -> Option<(AxisId, Um, Um)>
 }
 
 /// Where a motion leaves an axis.
-#[tactic(auto, unfolding(crate::specs::ZoneBoxes::stand_after))]
+#[tactic(auto, unfolding(zone_stretches::specs::ZoneBoxes::stand_after))]
 fn after(item: &Item, row: &Row, index: usize) -> Um
     requires { index < AXIS_LIMIT }
     ensures { result ≡ stand_after item.now (positions_in row.now) index }

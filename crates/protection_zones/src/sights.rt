@@ -1,22 +1,12 @@
 //! What items are to a zone.
 ghost use Rattle.std.specs.Prelude.{◌≡◌};
 ghost use Rattle.job_types.specs.Zones.{is_carrier, has_axis};
-ghost use Rattle.protection_zones.specs.ZoneBoxes.{moves_zone, seen};
+ghost use Rattle.zone_stretches.specs.ZoneBoxes.{moves_zone, seen};
 
 use axis_sets::AxisId;
 use job_types::ZoneLine;
 use sync_types::{Item, Part};
-
-/// What an item is to a zone.
-#[derive(Clone, Copy)]
-pub enum Sight {
-    /// Nothing.
-    Nothing,
-    /// It switches the zone on, where this is true, or off.
-    Turns(bool),
-    /// A motion that has an axis of the zone.
-    Moves,
-}
+use zone_stretches::Sight;
 
 /// Whether a direction is carried by this axis.
 fn is_carrier(axis: AxisId, carrier: Option<(AxisId, bool)>) -> bool
@@ -37,7 +27,7 @@ fn has_axis(zone: &ZoneLine, axis: AxisId) -> bool
 }
 
 /// Whether an axis of the zone is among the axes of the motion.
-#[tactic(auto, unfolding(crate::specs::ZoneBoxes::moves_zone))]
+#[tactic(auto, unfolding(zone_stretches::specs::ZoneBoxes::moves_zone))]
 fn moves_zone(zone: &ZoneLine, item: &Item) -> bool
     ensures { result ≡ moves_zone zone.now item.now }
 {

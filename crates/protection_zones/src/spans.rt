@@ -7,8 +7,8 @@ ghost use Rattle.job_types.specs.Job.{JobView};
 ghost use Rattle.protection_zones.specs.Beginnings.{AreOutsets, beginnings_from, shown_outset};
 ghost use Rattle.protection_zones.specs.Exchanges.{count_in};
 ghost use Rattle.protection_zones.specs.Notes.{shown_note};
-ghost use Rattle.protection_zones.specs.Occurrences.{Occurrence};
-ghost use Rattle.protection_zones.specs.Spans.{Beginning, first_beginning, starts_at_first};
+ghost use Rattle.zone_stretches.specs.Occurrences.{Occurrence};
+ghost use Rattle.zone_stretches.specs.Spans.{Beginning, first_beginning, starts_at_first};
 
 use crate::Row;
 use crate::notes::Note;

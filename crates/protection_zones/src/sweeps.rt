@@ -1,24 +1,23 @@
 //! The boxes of a zone in a span of the channel that holds it.
 ghost use Rattle.std.specs.Prelude.{◌≡◌, ◌<◌, ◌≤◌, ◌^◌, ◌++◌, ◌+◌, [], All, IfOk, OnOk, length, map, is_some};
 ghost use Rattle.std.specs.Option.{option_to_list};
-ghost use Rattle.protection_zones.specs.Rows.{positions_in};
+ghost use Rattle.zone_stretches.specs.Rows.{positions_in};
 ghost use Rattle.protection_zones.specs.Sweeps as model;
-ghost use Rattle.protection_zones.specs.ZoneBoxes.{IsFit, boxes_of, shown_box};
+ghost use Rattle.zone_stretches.specs.ZoneBoxes.{IsFit, boxes_of, shown_box};
 ghost use Rattle.path_geometry.specs.Motions.{IsSound};
 ghost use Rattle.swept_boxes.specs.Cover.{cover_of};
 ghost use Rattle.sync_types.specs.Items.{movement_of};
 
 use crate::Row;
 use crate::rows::settle;
-use crate::sights::{Sight, seen};
-use crate::stretches::ZoneBox;
-use crate::zone_boxes::{standing_zone_box, zone_box};
+use crate::sights::seen;
 use arrayvec::ArrayVec;
 use job_types::ZoneLine;
 use micro_units::Um;
 use std::alloc::{AllocError, Global};
 use swept_boxes::{Ranges, cover};
 use sync_types::Item;
+use zone_stretches::{Sight, ZoneBox, standing_zone_box, zone_box};
 
 /// What an item covers: its motion, or where it switches a zone nothing.
 fn cover_of(item: &Item) -> Ranges

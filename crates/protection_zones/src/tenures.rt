@@ -5,8 +5,8 @@ ghost use Rattle.axis_sets.specs.Sets.{has};
 ghost use Rattle.axis_sets.specs.declared.limits.TheConstants.{AXIS_LIMIT};
 ghost use Rattle.protection_zones.specs.Exchanges.{counts_in, shown_exchange, tenure_from, tenures_then};
 ghost use Rattle.protection_zones.specs.Notes.{shown_note};
-ghost use Rattle.protection_zones.specs.Tenures.{first_tenure, is_carried_by, tenure_until};
 ghost use Rattle.protection_zones.specs.Terms.{changes, shown_term};
+ghost use Rattle.zone_stretches.specs.Tenures.{first_tenure, is_carried_by, tenure_until};
 
 use crate::Row;
 use crate::exchanges::Exchange;

@@ -5,27 +5,26 @@ ghost use Rattle.job_types.specs.SoundJob.{IsSoundJob};
 ghost use Rattle.job_types.specs.Zones.{zones_in_order};
 ghost use Rattle.protection_zones.specs.Beginnings.{all_items};
 ghost use Rattle.protection_zones.specs.Logs.{IsLog};
-ghost use Rattle.protection_zones.specs.Occurrences.{Occurrence};
-ghost use Rattle.protection_zones.specs.Stretches.{all_stretches, stretches_of_zone};
-ghost use Rattle.protection_zones.specs.ZoneBoxes.{IsFit};
 ghost use Rattle.sync_types.specs.Boards.{first_board};
 ghost use Rattle.sync_types.specs.Runs.{ComesFrom};
 ghost use Rattle.sync_types.specs.Views.{StartView};
+ghost use Rattle.zone_stretches.specs.Occurrences.{Occurrence};
+ghost use Rattle.zone_stretches.specs.Stretches.{all_stretches, stretches_of_zone};
+ghost use Rattle.zone_stretches.specs.ZoneBoxes.{IsFit};
 
 use crate::logs::{Log, log_of};
-use crate::stretches::{Stretch, Stretches};
 use crate::tenures::terms_of;
 use crate::zone_time::Scene;
-use crate::zones::zone_numbered;
 use axis_sets::ZONE_LIMIT;
 use job_types::Job;
 use order_clocks::Clocks;
 use out_of_memory::NoMemory;
 use std::alloc::{AllocError, Global};
 use sync_types::{ChannelEnd, Entry, Item, Run};
+use zone_stretches::{Stretch, Stretches, zone_numbered};
 
 /// The stretches of a zone.
-#[tactic(auto, unfolding(crate::specs::Stretches::stretches_of_zone))]
+#[tactic(auto, unfolding(zone_stretches::specs::Stretches::stretches_of_zone))]
 fn stretches_of_zone(alloc: Global, scene: &Scene, log: &Log) -> Result<Vec<Stretch>, AllocError>
     requires axes { length scene.now.job.now.axes ≤ AXIS_LIMIT }
     requires few { All (λ done. length done < 2 ^ 32) (all_items scene.now.items.now) }

@@ -5,21 +5,21 @@ ghost use Rattle.std.specs.Option.{option_map_or};
 ghost use Rattle.axis_sets.specs.Sets.{has};
 ghost use Rattle.axis_sets.specs.declared.limits.TheConstants.{CHANNEL_PLACES};
 ghost use Rattle.protection_zones.specs.Beginnings.{AreOutsets, all_items, end_of, entry_until, first_in, items_until, outsets_in, shown_outset, span_at, spans_along};
-ghost use Rattle.protection_zones.specs.Occurrences.{Occurrence};
-ghost use Rattle.protection_zones.specs.Rows.{positions_in};
-ghost use Rattle.protection_zones.specs.Spans.{Span, spans_of};
-ghost use Rattle.protection_zones.specs.Stretches.{free_stretch, spans_between, stretch_of_span, stretches_in_tenure};
 ghost use Rattle.protection_zones.specs.Terms.{shown_term};
-ghost use Rattle.protection_zones.specs.ZoneBoxes.{IsFit, boxes_of, shown_box};
+ghost use Rattle.zone_stretches.specs.Occurrences.{Occurrence};
+ghost use Rattle.zone_stretches.specs.Rows.{positions_in};
+ghost use Rattle.zone_stretches.specs.Spans.{Span, spans_of};
+ghost use Rattle.zone_stretches.specs.Stretches.{free_stretch, spans_between, stretch_of_span, stretches_in_tenure};
+ghost use Rattle.zone_stretches.specs.ZoneBoxes.{IsFit, boxes_of, shown_box};
 
 use crate::spans::Outset;
-use crate::stretches::{Stretch, ZoneBox};
 use crate::sweeps::{boxes_at_rest, write_boxes};
 use crate::tenures::Term;
 use axis_sets::ChannelId;
 use job_types::{Job, ZoneLine};
 use std::alloc::{AllocError, Global};
 use sync_types::{EventId, Item, PlaceName, StretchKind};
+use zone_stretches::{Stretch, ZoneBox};
 
 /// A zone of a job, with what the channels do before each entry of a run.
 #[derive(Clone, Copy)]

@@ -5,9 +5,9 @@ use Rattle.std.specs.Option.{option_map_or}
 use Rattle.job_types.specs.Job.{JobView}
 use Rattle.job_types.specs.Zones.{zones_in_order}
 use Rattle.job_types.specs.declared.job.ZoneLine.{ZoneLine}
-use Rattle.protection_zones.specs.Pieces.{piece_boxes}
-use Rattle.protection_zones.specs.Stretches.{StretchView, StretchesView}
-use Rattle.protection_zones.specs.declared.stretches.ZoneBox.{ZoneBox}
+use Rattle.zone_stretches.specs.Pieces.{piece_boxes}
+use Rattle.zone_stretches.specs.Stretches.{StretchView, StretchesView}
+use Rattle.zone_stretches.specs.declared.stretches.ZoneBox.{ZoneBox}
 use Rattle.picture_views.specs.declared.shapes.Look.{Look}
 use Rattle.picture_views.specs.declared.shapes.Look.TheVariants.{Free, Held}
 use Rattle.picture_views.specs.declared.shapes.Tile.{Tile}

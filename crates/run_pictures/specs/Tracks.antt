@@ -11,9 +11,9 @@ use Rattle.path_geometry.specs.Motions.{axes_of}
 use Rattle.path_geometry.specs.declared.motion.Motion.{Motion}
 use Rattle.path_geometry.specs.declared.motion.Motion.TheVariants.{Line, Rapid}
 use Rattle.path_geometry.specs.declared.motion.Motion.TheVariants as Kind
-use Rattle.protection_zones.specs.Pieces.{motion_at}
-use Rattle.protection_zones.specs.Stretches.{StretchView, StretchesView}
-use Rattle.protection_zones.specs.declared.stretches.ZoneBox.{ZoneBox}
+use Rattle.zone_stretches.specs.Pieces.{motion_at}
+use Rattle.zone_stretches.specs.Stretches.{StretchView, StretchesView}
+use Rattle.zone_stretches.specs.declared.stretches.ZoneBox.{ZoneBox}
 use Rattle.picture_views.specs.declared.shapes.Track.{Track}
 use Rattle.picture_views.specs.declared.shapes.Turn.{Turn}
 use Rattle.run_pictures.specs.Turns.{signed, turn_of}

@@ -1,16 +1,16 @@
 //! The boxes of all zones, by the pieces of their motions, each with the look of its holder.
 ghost use Rattle.std.specs.Prelude.{◌≡◌, ◌≤◌, ◌++◌, All, IfOk, flat_map, map, slice_index_or, take, []};
 ghost use Rattle.job_lines.specs.declared.limits.TheConstants.{DEPTH_LIMIT};
-ghost use Rattle.protection_zones.specs.ZoneBoxes.{IsFit};
 ghost use Rattle.run_pictures.specs.Boxes as model;
+ghost use Rattle.zone_stretches.specs.ZoneBoxes.{IsFit};
 
 use crate::kept::keep;
 use job_types::{Job, ZoneLine};
 use out_of_memory::NoMemory;
 use picture_views::{Look, Tile};
-use protection_zones::{Stretch, Stretches, ZoneBox, boxes_by_pieces, zone_at};
 use swept_boxes::Box3;
 use sync_types::{PlaceName, Run};
+use zone_stretches::{Stretch, Stretches, ZoneBox, boxes_by_pieces, zone_at};
 
 /// How a box is drawn: as one of the channel that holds its zone, or as one that nobody holds.
 pub(crate) fn look_of(name: &PlaceName) -> Look

@@ -1,18 +1,18 @@
 //! The two boxes that the verdict names, in red.
 ghost use Rattle.std.specs.Prelude.{◌≡◌, ◌≤◌, ◌++◌, ◌==◌, All, IfOk, find, option_copied};
 ghost use Rattle.job_lines.specs.declared.limits.TheConstants.{DEPTH_LIMIT};
-ghost use Rattle.protection_zones.specs.ZoneBoxes.{IsFit};
 ghost use Rattle.run_pictures.specs.Named as model;
+ghost use Rattle.zone_stretches.specs.ZoneBoxes.{IsFit};
 
 use axis_sets::ZoneId;
 use job_types::{Job, ZoneLine};
 use out_of_memory::NoMemory;
 use picture_views::{Look, Tile};
-use protection_zones::{Stretch, ZoneBox, boxes_by_pieces};
 use std::alloc::Global;
 use swept_boxes::Box3;
 use sync_types::Run;
 use told_places::{Meeting, Place};
+use zone_stretches::{Stretch, ZoneBox, boxes_by_pieces};
 
 /// Adds the pieces of a box; the first of them has its line.
 fn add_pieces(tiles: &mut Vec<Tile>, pieces: &[Box3], look: Look, line: u32) -> Result<(), NoMemory>

@@ -1,12 +1,12 @@
 //! The picture of a judged job.
 ghost use Rattle.std.specs.Prelude.{◌≡◌, ◌≤◌, ◌++◌, ◌||◌, ◌+◌, All, IfOk, length, nat_lt, option_copied, take};
 ghost use Rattle.job_lines.specs.declared.limits.TheConstants.{DEPTH_LIMIT};
-ghost use Rattle.protection_zones.specs.ZoneBoxes.{IsFit};
 ghost use Rattle.run_pictures.specs.Boxes.{all_tiles};
 ghost use Rattle.run_pictures.specs.Kept.{IsShortened};
 ghost use Rattle.run_pictures.specs.Moments.{channels_of, moments_from};
 ghost use Rattle.run_pictures.specs.Named.{named_tiles};
 ghost use Rattle.run_pictures.specs.Tracks.{all_tracks};
+ghost use Rattle.zone_stretches.specs.ZoneBoxes.{IsFit};
 
 use crate::kept::shortened;
 use crate::moments::{add_entries, channels_of};
@@ -15,10 +15,10 @@ use crate::{boxes, tracks};
 use job_types::Job;
 use out_of_memory::NoMemory;
 use picture_views::{Moment, Picture, Tile, Track};
-use protection_zones::Stretches;
 use std::alloc::Global;
 use sync_types::{Entry, Run};
 use told_places::Meeting;
+use zone_stretches::Stretches;
 
 /// Up to how many boxes are drawn, and up to how many ways.
 pub const TILE_LIMIT: usize = 20_000;

@@ -13,9 +13,9 @@ use micro_units::Um;
 use out_of_memory::NoMemory;
 use path_geometry::Motion;
 use picture_views::{Track, Turn};
-use protection_zones::{Stretch, Stretches, ZoneBox, motion_at, zone_at};
 use swept_boxes::Box3;
 use sync_types::Run;
+use zone_stretches::{Stretch, Stretches, ZoneBox, motion_at, zone_at};
 
 /// Where the point of a side stands during a box that does not move it: at the position of its carrier, or in the middle of the
 /// box where it has none.

@@ -2,9 +2,9 @@
 use Rattle.std.proofs.Common.{◌≡◌, ◌∙◌, ℕ, zero, suc, Bool, true, false, cond, ◌==◌, List, [], ◌∷◌, length, map, filter, slice_get, slice_index_or, Some, if◌then◌else◌, refl, sym, ap, subst}
 use Rattle.std.proofs.lemmas.Bool.{eqb-true}
 use Rattle.board_laws.specs.Zones.{Zones}
-use Rattle.protection_zones.proofs.EventLaws.{IsTold, all_told, own_name}
-use Rattle.protection_zones.proofs.NameLaws.{occurrences_named}
-use Rattle.protection_zones.specs.Occurrences.{Occurrence, occurrences_of}
+use Rattle.zone_stretches.proofs.EventLaws.{IsTold, all_told, own_name}
+use Rattle.zone_stretches.proofs.NameLaws.{occurrences_named}
+use Rattle.zone_stretches.specs.Occurrences.{Occurrence, occurrences_of}
 use Rattle.schedule_laws.specs.Tracked.{clocks_at}
 use Rattle.speed_laws.proofs.AlikeNames.{AreAlikeNames}
 use Rattle.speed_laws.proofs.AlikeKinds.{KindsFollow, kind_next, kinds_follow}

@@ -7,7 +7,6 @@ use Rattle.board_laws.proofs.Zones.{zones_step}
 use Rattle.board_laws.specs.Zones.{Zones}
 use Rattle.order_clocks.specs.Happenings.{going_of, happening_of, hold_in}
 use Rattle.order_clocks.specs.Watching.{wait_in}
-use Rattle.protection_zones.specs.Occurrences.{Occurrence, act_of, going_on_of, kind_after_act, occurrences_in, occurrences_from}
 use Rattle.speed_laws.proofs.Histories.{found_in, none_in}
 use Rattle.speed_laws.proofs.StepEvents.{actor_told, as_goings, goes_on, goes_waited, is_stopped, kept_state, not_started, part_other, started_other, step_events}
 use Rattle.sync_types.proofs.BoardTests.{no_truth}
@@ -18,6 +17,7 @@ use Rattle.sync_types.specs.Turns.{AreOfRunning, Move, after_moves, after_step, 
 use Rattle.sync_types.specs.declared.Step.{Step}
 use Rattle.sync_types.specs.declared.verdicts.StretchKind.{StretchKind}
 use Rattle.sync_types.specs.declared.verdicts.StretchKind.TheVariants.{Run, Hold}
+use Rattle.zone_stretches.specs.Occurrences.{Occurrence, act_of, going_on_of, kind_after_act, occurrences_in, occurrences_from}
 
 -- ---- kinds
 

@@ -10,12 +10,6 @@ use Rattle.job_types.specs.SoundJob.{IsSoundJob}
 use Rattle.job_types.specs.Zones.{zones_in_order}
 use Rattle.job_types.specs.declared.job.ZoneLine.{ZoneLine}
 use Rattle.order_clocks.specs.Clocked.{IsOrderOf, moves_in}
-use Rattle.protection_zones.specs.Occurrences.{Occurrence, occurrences_of}
-use Rattle.protection_zones.specs.Overlaps.{Order}
-use Rattle.protection_zones.specs.SoundStretches.{IsZoneOf}
-use Rattle.protection_zones.specs.Spans.{Span, entry_of_beginning, spans_of}
-use Rattle.protection_zones.specs.Stretches.{StretchView, all_stretches, spans_between, stretch_of_span, stretches_held_by, stretches_in_tenure, stretches_of_zone}
-use Rattle.protection_zones.specs.Tenures.{Tenure, tenures_of}
 use Rattle.schedule_laws.proofs.RunLaws.{all_agree}
 use Rattle.schedule_laws.specs.Schedules.{IsMaximalOf, IsQuietRun, moves_by}
 use Rattle.schedule_laws.specs.Tracked.{tenures_at}
@@ -34,6 +28,12 @@ use Rattle.sync_types.specs.Runs.{first_stage}
 use Rattle.sync_types.specs.Turns.{AreOfRunning, Move}
 use Rattle.sync_types.specs.Views.{RunView}
 use Rattle.sync_types.specs.declared.Item.{Item}
+use Rattle.zone_stretches.specs.Occurrences.{Occurrence, occurrences_of}
+use Rattle.zone_stretches.specs.Overlaps.{Order}
+use Rattle.zone_stretches.specs.SoundStretches.{IsZoneOf}
+use Rattle.zone_stretches.specs.Spans.{Span, entry_of_beginning, spans_of}
+use Rattle.zone_stretches.specs.Stretches.{StretchView, all_stretches, spans_between, stretch_of_span, stretches_held_by, stretches_in_tenure, stretches_of_zone}
+use Rattle.zone_stretches.specs.Tenures.{Tenure, tenures_of}
 
 -- ---- lists
 

@@ -6,12 +6,6 @@ use Rattle.axis_sets.specs.Positions.{position_of}
 use Rattle.axis_sets.specs.Sets.{has}
 use Rattle.job_types.specs.Job.{JobView}
 use Rattle.job_types.specs.declared.job.ZoneLine.{ZoneLine}
-use Rattle.protection_zones.specs.Occurrences.{Occurrence}
-use Rattle.protection_zones.specs.Pieces.{motion_at}
-use Rattle.protection_zones.specs.Spans.{Beginning, Span, beginning_after, entry_of_beginning, first_beginning, span_until, spans_from, spans_of}
-use Rattle.protection_zones.specs.Stretches.{StretchView, spans_between, stretch_between}
-use Rattle.protection_zones.specs.ZoneBoxes.{boxes_of, shown_box}
-use Rattle.protection_zones.specs.declared.stretches.ZoneBox.{ZoneBox}
 use Rattle.speed_laws.proofs.AlikeEvents.{AreAlikeEvents, IsAlike}
 use Rattle.speed_laws.proofs.AlikeNames.{AreAlikeEnds}
 use Rattle.speed_laws.specs.AlikeRuns.{AreAlike}
@@ -22,6 +16,12 @@ use Rattle.sync_types.specs.Views.{RunView}
 use Rattle.sync_types.specs.declared.Item.{Item}
 use Rattle.sync_types.specs.declared.verdicts.PlaceName.{PlaceName}
 use Rattle.sync_types.specs.declared.verdicts.StretchKind.{StretchKind}
+use Rattle.zone_stretches.specs.Occurrences.{Occurrence}
+use Rattle.zone_stretches.specs.Pieces.{motion_at}
+use Rattle.zone_stretches.specs.Spans.{Beginning, Span, beginning_after, entry_of_beginning, first_beginning, span_until, spans_from, spans_of}
+use Rattle.zone_stretches.specs.Stretches.{StretchView, spans_between, stretch_between}
+use Rattle.zone_stretches.specs.ZoneBoxes.{boxes_of, shown_box}
+use Rattle.zone_stretches.specs.declared.stretches.ZoneBox.{ZoneBox}
 
 -- a zone has boxes that stand where its holder does nothing
 still_boxes : (margin : ℤ) (zone : ZoneLine) (on : Bool) (line : ℕ) (at : ℕ → ℤ) → All (λ box. box.motion ≡ None) (map (shown_box margin zone) (boxes_of zone on line at []))

@@ -11,10 +11,10 @@ use Rattle.board_laws.specs.Zones.{Zones}
 use Rattle.job_types.specs.Job.{JobView}
 use Rattle.job_types.specs.Zones.{has_axis}
 use Rattle.job_types.specs.declared.job.ZoneLine.{ZoneLine}
-use Rattle.protection_zones.proofs.HandLaws.{HandsAre, IsFor, carry_from, run_hands}
-use Rattle.protection_zones.specs.Occurrences.{Occurrence, occurrences_from, occurrences_of}
-use Rattle.protection_zones.specs.Spans.{Beginning}
-use Rattle.protection_zones.specs.Tenures.{Tenure, carry, counted, first_tenure, tenure_after, tenure_until, tenures_from, tenures_of}
+use Rattle.zone_stretches.proofs.HandLaws.{HandsAre, IsFor, carry_from, run_hands}
+use Rattle.zone_stretches.specs.Occurrences.{Occurrence, occurrences_from, occurrences_of}
+use Rattle.zone_stretches.specs.Spans.{Beginning}
+use Rattle.zone_stretches.specs.Tenures.{Tenure, carry, counted, first_tenure, tenure_after, tenure_until, tenures_from, tenures_of}
 use Rattle.schedule_laws.specs.Tracked.{tenures_at}
 use Rattle.speed_laws.proofs.AlikeEvents.{AreAlikeEvents, alike_at}
 use Rattle.speed_laws.proofs.AlikeNames.{AreAlikeEnds}

@@ -8,11 +8,6 @@ use Rattle.job_types.specs.Zones.{zones_in_order}
 use Rattle.job_types.specs.declared.job.ZoneLine.{ZoneLine}
 use Rattle.number_laws.proofs.Lists.{SomeOf, SomeOf-weaker, none_found}
 use Rattle.order_clocks.specs.Clocked.{IsOrderOf, moves_in}
-use Rattle.protection_zones.specs.Occurrences.{occurrences_of}
-use Rattle.protection_zones.specs.Overlaps.{Order, compared_pairs}
-use Rattle.protection_zones.specs.Pieces.{pair_meets}
-use Rattle.protection_zones.specs.SoundStretches.{IsZoneOf}
-use Rattle.protection_zones.specs.Stretches.{StretchView, all_stretches, stretches_of_zone}
 use Rattle.schedule_laws.specs.Schedules.{IsQuietRun, moves_by}
 use Rattle.speed_laws.proofs.ComparedPairs.{HasBox, HoldsPlace, IsCurrent, IsCut, IsInPiece, is_in_order, some_pair_meets, zone_by_number}
 use Rattle.speed_laws.proofs.FreeZones.{zone_stands}
@@ -32,6 +27,11 @@ use Rattle.sync_types.specs.Events.{IsLowestName}
 use Rattle.sync_types.specs.Runs.{first_stage}
 use Rattle.sync_types.specs.Views.{RunView}
 use Rattle.sync_types.specs.declared.runs.EventId.{EventId}
+use Rattle.zone_stretches.specs.Occurrences.{occurrences_of}
+use Rattle.zone_stretches.specs.Overlaps.{Order, compared_pairs}
+use Rattle.zone_stretches.specs.Pieces.{pair_meets}
+use Rattle.zone_stretches.specs.SoundStretches.{IsZoneOf}
+use Rattle.zone_stretches.specs.Stretches.{StretchView, all_stretches, stretches_of_zone}
 
 holds_of : {X : Type 0} (P : X → Type 0) (x : X) (xs : List X) → All P xs → SomeOf (λ y. y ≡ x) xs → P x
 holds_of P x [] all some = absurd some

@@ -1,12 +1,10 @@
 -- The box of a zone in a piece of a motion, as it is compared, is the zone box of the piece; and a point that a box covers is in one of them.
-use Rattle.std.proofs.Common.{◌≡◌, ◌∙◌, ℕ, zero, suc, ℤ, pos, ◌≤ℤ◌, ◌+◌, ◌+ℤ◌, ◌*ℤ◌, ◌-◌, ◌<◌, ◌==◌, Bool, true, false, cond, List, [], ◌∷◌, map, length, get_or, find, slice_get, Option, None, Some, option_and_then, IsNone, All, Any, inl, inr, zero-add, refl, sym, ap, subst, arith}
+use Rattle.std.proofs.Common.{◌≡◌, ℕ, zero, suc, ℤ, pos, ◌+◌, ◌+ℤ◌, ◌*ℤ◌, ◌-◌, ◌<◌, ◌==◌, Bool, true, false, cond, List, [], ◌∷◌, map, length, get_or, find, slice_get, Option, None, Some, option_and_then, IsNone, All, Any, inl, inr, refl, sym, subst, arith}
 use Rattle.std.proofs.lemmas.Bool.{eqb-true}
 use Rattle.std.proofs.lemmas.Int.{ints}
 use Rattle.std.proofs.lemmas.List.Elements.{All-head, All-tail, All-weaker}
-use Rattle.std.specs.List.{AllZip}
 use Rattle.std.specs.Option.{option_map, option_map_or}
 use Rattle.job_types.specs.Zones.{has_axis}
-use Rattle.job_types.specs.declared.job.Side.{Side}
 use Rattle.job_types.specs.declared.job.ZoneLine.{ZoneLine}
 use Rattle.number_laws.proofs.Lists.{SomeOf, SomeOf-weaker, SomeOf-map, found_passes, All-found}
 use Rattle.number_laws.specs.Fractions.{IsIn}
@@ -16,12 +14,9 @@ use Rattle.path_geometry.specs.declared.motion.Arc.{Arc}
 use Rattle.path_geometry.specs.declared.motion.Motion.{Motion}
 use Rattle.path_geometry.specs.declared.motion.Motion.TheVariants.{Line, Rapid}
 use Rattle.path_geometry.specs.declared.motion.Motion.TheVariants as Kind
-use Rattle.protection_zones.specs.Pieces.{piece_low, piece_high, by_direction, piece_box, boxes_in_pieces}
-use Rattle.protection_zones.specs.ZoneBoxes.{side_low, side_high, zone_box, box_of, low_in, high_in, PlaceBox, cover_during}
 use Rattle.speed_laws.proofs.Covers.{Covers, IsCovered, IsNamed}
 use Rattle.speed_laws.specs.Places.{StandsAt, IsAlong}
 use Rattle.swept_boxes.proofs.PieceLaws.{covered, in_cover}
-use Rattle.swept_boxes.specs.Boxes.{low_of, high_of}
 use Rattle.swept_boxes.specs.Cover.{cover_of}
 use Rattle.swept_boxes.specs.Pieces.{range_between, range_over, pieces_at}
 use Rattle.swept_boxes.specs.PlaneBoxes.{BoxInPlane}
@@ -30,87 +25,9 @@ use Rattle.swept_boxes.specs.declared.Box3.{Box3}
 use Rattle.sync_types.proofs.Positions.{end_moved}
 use Rattle.sync_types.specs.Items.{motion_of, movement_of}
 use Rattle.sync_types.specs.declared.Item.{Item}
-
--- ---- the ranges of a piece
-
--- what lies in what, axis by axis
-abbrev IsWithin : ℕ × ℤ × ℤ → ℕ × ℤ × ℤ → Type 0
-IsWithin r s = (r.0 ≡ s.0) × (s.1 ≤ℤ r.1) × (r.2 ≤ℤ s.2)
-
--- an axis that a piece has not, its cover has not
-pub absent : (inner outer : List (ℕ × ℤ × ℤ)) (axis : ℕ) → AllZip IsWithin inner outer → find (λ r. r.0 == axis) inner ≡ None → find (λ r. r.0 == axis) outer ≡ None
-absent [] [] axis lie none = refl
-absent [] (s ∷ ss) axis lie none = absurd lie
-absent (r ∷ rs) [] axis lie none = absurd lie
-absent (r ∷ rs) (s ∷ ss) axis lie none =
-    subst (λ (n : ℕ). cond (n == axis) (Some s) (find (λ e. e.0 == axis) ss) ≡ None) lie.0.0 (by_test (r.0 == axis) none (absent rs ss axis lie.1))
-  where
-    by_test : (b : Bool) → cond b (Some r) (find (λ e. e.0 == axis) rs) ≡ None → (find (λ e. e.0 == axis) rs ≡ None → find (λ e. e.0 == axis) ss ≡ None)
-        → cond b (Some s) (find (λ e. e.0 == axis) ss) ≡ None
-    by_test true none rest = absurd cc
-    by_test false none rest = rest none
-
--- ---- the box of a piece
-
--- a side that the motion does not carry has in a piece the bounds that it has in the cover
-piece_low_is : (margin : ℤ) (ranges cover : RangesView) (at : ℕ → ℤ) → LieIn ranges cover → (side : Side)
-    → piece_low margin ranges side (side_low margin (low_in cover at) (high_in cover at) side) ≡ side_low margin (low_in ranges at) (high_in ranges at) side
-unfolding piece_low side_low low_in high_in
-piece_low_is margin ranges cover at lie side = by_carrier side.carrier refl
-  where
-    by_range : (axis : ℕ) (minus : Bool) (o : Option (ℕ × ℤ × ℤ)) → find (λ r. r.0 == axis) ranges.axes ≡ o → side.carrier ≡ Some (axis, minus)
-        → piece_low margin ranges side (side_low margin (low_in cover at) (high_in cover at) side) ≡ side_low margin (low_in ranges at) (high_in ranges at) side
-    by_range axis true None is carried_bound = let none : find (λ r. r.0 == axis) cover.axes ≡ None = absent ranges.axes cover.axes axis lie is in rw (carried_bound, is, none) refl
-    by_range axis false None is carried_bound = let none : find (λ r. r.0 == axis) cover.axes ≡ None = absent ranges.axes cover.axes axis lie is in rw (carried_bound, is, none) refl
-    by_range axis true (Some r) is carried_bound = rw (carried_bound, is) refl
-    by_range axis false (Some r) is carried_bound = rw (carried_bound, is) refl
-
-    by_carrier : (o : Option (ℕ × Bool)) → side.carrier ≡ o
-        → piece_low margin ranges side (side_low margin (low_in cover at) (high_in cover at) side) ≡ side_low margin (low_in ranges at) (high_in ranges at) side
-    by_carrier None is = rw is refl
-    by_carrier (Some (axis, minus)) is = by_range axis minus (find (λ r. r.0 == axis) ranges.axes) refl is
-
-piece_high_is : (margin : ℤ) (ranges cover : RangesView) (at : ℕ → ℤ) → LieIn ranges cover → (side : Side)
-    → piece_high margin ranges side (side_high margin (low_in cover at) (high_in cover at) side) ≡ side_high margin (low_in ranges at) (high_in ranges at) side
-unfolding piece_high side_high low_in high_in
-piece_high_is margin ranges cover at lie side = by_carrier side.carrier refl
-  where
-    by_range : (axis : ℕ) (minus : Bool) (o : Option (ℕ × ℤ × ℤ)) → find (λ r. r.0 == axis) ranges.axes ≡ o → side.carrier ≡ Some (axis, minus)
-        → piece_high margin ranges side (side_high margin (low_in cover at) (high_in cover at) side) ≡ side_high margin (low_in ranges at) (high_in ranges at) side
-    by_range axis true None is carried_bound = let none : find (λ r. r.0 == axis) cover.axes ≡ None = absent ranges.axes cover.axes axis lie is in rw (carried_bound, is, none) refl
-    by_range axis false None is carried_bound = let none : find (λ r. r.0 == axis) cover.axes ≡ None = absent ranges.axes cover.axes axis lie is in rw (carried_bound, is, none) refl
-    by_range axis true (Some r) is carried_bound = rw (carried_bound, is) refl
-    by_range axis false (Some r) is carried_bound = rw (carried_bound, is) refl
-
-    by_carrier : (o : Option (ℕ × Bool)) → side.carrier ≡ o
-        → piece_high margin ranges side (side_high margin (low_in cover at) (high_in cover at) side) ≡ side_high margin (low_in ranges at) (high_in ranges at) side
-    by_carrier None is = rw is refl
-    by_carrier (Some (axis, minus)) is = by_range axis minus (find (λ r. r.0 == axis) ranges.axes) refl is
-
--- sides with their directions, where each has the bound of its direction
-by_direction_is : (h : Side → ℤ → ℤ) (g f : Side → ℤ) → ((side : Side) → h side (g side) ≡ f side) → (bounds : ℕ → ℤ) (direction : ℕ) (sides : List Side)
-    → ((k : ℕ) → bounds (direction + k) ≡ get_or (map g sides) k (pos 0)) → by_direction (λ side d. h side (bounds d)) direction sides ≡ map f sides
-by_direction_is h g f same bounds direction [] each = refl
-by_direction_is h g f same bounds direction (side ∷ sides) each =
-    let here : direction ≡ direction + 0 = omega arith in
-    let first : bounds direction ≡ g side = ap bounds here ∙ each 0 in
-    rw (
-      first,
-      same side,
-      by_direction_is h g f same bounds (direction + 1) sides (λ k. let past : (direction + 1) + k ≡ direction + suc k = omega arith in ap bounds past ∙ each (suc k)),
-    ) refl
-
--- the box of a piece by its cover is the zone box of the piece
-pub piece_box_is : (margin : ℤ) (zone : ZoneLine) (ranges cover : RangesView) (at : ℕ → ℤ) → LieIn ranges cover
-    → piece_box margin zone.sides ranges (zone_box margin zone (low_in cover at) (high_in cover at)) ≡ zone_box margin zone (low_in ranges at) (high_in ranges at)
-unfolding piece_box box_of
-piece_box_is margin zone ranges cover at lie =
-    rw (
-      by_direction_is (piece_low margin ranges) (side_low margin (low_in cover at) (high_in cover at)) (side_low margin (low_in ranges at) (high_in ranges at)) (piece_low_is margin ranges cover at lie)
-          (low_of (zone_box margin zone (low_in cover at) (high_in cover at))) 0 zone.sides (λ k. rw (zero-add k) refl),
-      by_direction_is (piece_high margin ranges) (side_high margin (low_in cover at) (high_in cover at)) (side_high margin (low_in ranges at) (high_in ranges at)) (piece_high_is margin ranges cover at lie)
-          (high_of (zone_box margin zone (low_in cover at) (high_in cover at))) 0 zone.sides (λ k. rw (zero-add k) refl),
-    ) refl
+use Rattle.zone_stretches.proofs.PieceLaws.{absent, piece_box_is}
+use Rattle.zone_stretches.specs.Pieces.{piece_box, boxes_in_pieces}
+use Rattle.zone_stretches.specs.ZoneBoxes.{zone_box, low_in, high_in, PlaceBox, cover_during}
 
 -- ---- the pieces of a motion
 

@@ -13,10 +13,10 @@ use Rattle.path_geometry.specs.Path.{Point, IsOnPath}
 use Rattle.path_geometry.specs.declared.motion.Motion.{Motion}
 use Rattle.path_geometry.specs.declared.motion.Motion.TheVariants.{Line, Rapid}
 use Rattle.path_geometry.specs.declared.motion.Motion.TheVariants as Kind
-use Rattle.protection_zones.proofs.ShareLaws.{from_of, is_motion, is_open, next_from, next_is_open}
-use Rattle.protection_zones.specs.ZoneBoxes.{stand_after, moves_zone, sight_of, seen, PlaceBox, Opened, Shut, Waiting, Moving, closed, closed_before, next_open, walk, boxes_of}
-use Rattle.protection_zones.specs.declared.sights.Sight.{Sight}
-use Rattle.protection_zones.specs.declared.sights.Sight.TheVariants.{Nothing, Turns, Moves}
+use Rattle.zone_stretches.proofs.ShareLaws.{from_of, is_motion, is_open, next_from, next_is_open}
+use Rattle.zone_stretches.specs.ZoneBoxes.{stand_after, moves_zone, sight_of, seen, PlaceBox, Opened, Shut, Waiting, Moving, closed, closed_before, next_open, walk, boxes_of}
+use Rattle.zone_stretches.specs.declared.sights.Sight.{Sight}
+use Rattle.zone_stretches.specs.declared.sights.Sight.TheVariants.{Nothing, Turns, Moves}
 use Rattle.speed_laws.proofs.Positions.{after_is, left_at-cons}
 use Rattle.speed_laws.specs.Doings.{turned, on_after}
 use Rattle.speed_laws.specs.JoinedItems.{Joins, AllJoin}

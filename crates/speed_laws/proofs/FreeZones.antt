@@ -19,13 +19,6 @@ use Rattle.number_laws.proofs.Lists.{SomeOf, SomeOf-weaker, slice_get-append_lef
 use Rattle.order_clocks.proofs.MemberLaws.{in_append}
 use Rattle.order_clocks.specs.Chains.{IsIn}
 use Rattle.order_clocks.specs.Happenings.{axes_freed, happening_of}
-use Rattle.protection_zones.proofs.HandLaws.{IsFor, carry_to, owner_next, owners_next, release_frees, release_holds, step_hands}
-use Rattle.protection_zones.proofs.TenureLaws.{carry_none}
-use Rattle.protection_zones.specs.Occurrences.{Occurrence, act_of, going_on_of, occurrences_in, occurrences_from, occurrences_of}
-use Rattle.protection_zones.specs.SoundStretches.{IsZoneOf}
-use Rattle.protection_zones.specs.Spans.{Beginning, is_on_at_first}
-use Rattle.protection_zones.specs.Stretches.{StretchView, free_stretch, stretch_of_span, stretches_of_zone}
-use Rattle.protection_zones.specs.Tenures.{Tenure, carry, changes_hands, first_tenure, tenures_of}
 use Rattle.schedule_laws.specs.Schedules.{IsQuietRun, IsRunOf, moves_by}
 use Rattle.speed_laws.proofs.ComparedPairs.{IsCurrent}
 use Rattle.speed_laws.proofs.Grants.{position_is}
@@ -50,6 +43,13 @@ use Rattle.sync_types.specs.Runs.{first_stage, stage_after}
 use Rattle.sync_types.specs.Starts.{IsSound, first_owner, first_position}
 use Rattle.sync_types.specs.Turns.{AreOfRunning, Move, after_moves, after_step, goings_in_step}
 use Rattle.sync_types.specs.declared.Step.{Step}
+use Rattle.zone_stretches.proofs.HandLaws.{IsFor, carry_to, owner_next, owners_next, release_frees, release_holds, step_hands}
+use Rattle.zone_stretches.proofs.HandLaws.{carry_none}
+use Rattle.zone_stretches.specs.Occurrences.{Occurrence, act_of, going_on_of, occurrences_in, occurrences_from, occurrences_of}
+use Rattle.zone_stretches.specs.SoundStretches.{IsZoneOf}
+use Rattle.zone_stretches.specs.Spans.{Beginning, is_on_at_first}
+use Rattle.zone_stretches.specs.Stretches.{StretchView, free_stretch, stretch_of_span, stretches_of_zone}
+use Rattle.zone_stretches.specs.Tenures.{Tenure, carry, changes_hands, first_tenure, tenures_of}
 
 -- ---- those that go on in a step
 

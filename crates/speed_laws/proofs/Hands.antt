@@ -11,10 +11,6 @@ use Rattle.order_clocks.proofs.MemberLaws.{in_append}
 use Rattle.order_clocks.specs.Chains.{IsIn}
 use Rattle.order_clocks.specs.CourseOf.{course_of}
 use Rattle.order_clocks.specs.Happenings.{Happening, board_at, going_of, happening_at, happening_of, of_going}
-use Rattle.protection_zones.proofs.EventLaws.{Once}
-use Rattle.protection_zones.proofs.NameLaws.{in_mapped}
-use Rattle.protection_zones.specs.Occurrences.{Occurrence, going_on_of, occurrences_in, occurrences_from, occurrences_of}
-use Rattle.protection_zones.specs.Tenures.{counted}
 use Rattle.schedule_laws.proofs.EventLaws.{count_act, count_go}
 use Rattle.schedule_laws.proofs.Steps.{step_at, zones_at}
 use Rattle.schedule_laws.specs.Tracked.{move_at, rows_at, rows_in, taken_by, takes_in, tenures_at, tenures_in}
@@ -29,6 +25,10 @@ use Rattle.sync_types.specs.GoingOn.{Going, after_goes, all_takings, first_of, g
 use Rattle.sync_types.specs.Turns.{AreOfRunning, Move, after_step, goings_in_step}
 use Rattle.sync_types.specs.declared.Action.TheVariants.{End as Ends}
 use Rattle.sync_types.specs.declared.Step.{Step}
+use Rattle.zone_stretches.proofs.EventLaws.{Once}
+use Rattle.zone_stretches.proofs.NameLaws.{in_mapped}
+use Rattle.zone_stretches.specs.Occurrences.{Occurrence, going_on_of, occurrences_in, occurrences_from, occurrences_of}
+use Rattle.zone_stretches.specs.Tenures.{counted}
 
 -- ---- the events of the first steps
 

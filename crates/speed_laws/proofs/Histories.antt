@@ -7,7 +7,6 @@ use Rattle.board_laws.proofs.Zones.{zones_first, zones_step}
 use Rattle.board_laws.specs.Zones.{Zones}
 use Rattle.order_clocks.specs.Chains.{IsIn}
 use Rattle.order_clocks.specs.Happenings.{going_of, happening_of}
-use Rattle.protection_zones.specs.Occurrences.{Occurrence, act_of, going_on_of, occurrences_in, occurrences_from, occurrences_of}
 use Rattle.speed_laws.proofs.StepEvents.{ActorTold, actor_goes, actor_told, as_goings, goes_on, goes_waited, is_stopped, kept_state, not_started, part_other, step_events}
 use Rattle.speed_laws.specs.Doings.{Doings}
 use Rattle.speed_laws.specs.Histories.{Telling, telling_of, act_telling, going_telling, waits_at, history, items_by, ChannelsHaveHistories}
@@ -22,6 +21,7 @@ use Rattle.sync_types.specs.Views.{StartView}
 use Rattle.sync_types.specs.declared.Grant.{Grant}
 use Rattle.sync_types.specs.declared.Item.{Item}
 use Rattle.sync_types.specs.declared.Step.{Step}
+use Rattle.zone_stretches.specs.Occurrences.{Occurrence, act_of, going_on_of, occurrences_in, occurrences_from, occurrences_of}
 
 -- what is so of the grants to come: who does not run and gets none does not run at last, and who has stopped gets none
 pub record Ahead (s : State) (more : List Grant) (at_last : Bool) : Type 0 where

@@ -15,10 +15,6 @@ use Rattle.order_clocks.specs.Clocked.{IsOrderOf}
 use Rattle.order_clocks.specs.Counters.{LastRows, row}
 use Rattle.order_clocks.specs.CourseOf.{course_of}
 use Rattle.order_clocks.specs.Happenings.{going_of, happening_of}
-use Rattle.protection_zones.proofs.EventLaws.{IsTold, all_told, own_name}
-use Rattle.protection_zones.proofs.NameLaws.{listed}
-use Rattle.protection_zones.specs.Occurrences.{Occurrence, act_of, going_on_of, occurrences_in, occurrences_from, occurrences_of}
-use Rattle.protection_zones.specs.Overlaps.{Order}
 use Rattle.schedule_laws.proofs.EventLaws.{count_act, count_go, events_told}
 use Rattle.schedule_laws.proofs.Held.{rows_next, rows_up}
 use Rattle.schedule_laws.proofs.NextTurn.{log_at}
@@ -41,6 +37,10 @@ use Rattle.sync_types.specs.Runs.{Script, first_stage, moves_of, stage_after}
 use Rattle.sync_types.specs.Turns.{AreOfRunning, Move, after_step, goings_in_step}
 use Rattle.sync_types.specs.Views.{StartView}
 use Rattle.sync_types.specs.declared.runs.EventId.{EventId}
+use Rattle.zone_stretches.proofs.EventLaws.{IsTold, all_told, own_name}
+use Rattle.zone_stretches.proofs.NameLaws.{listed}
+use Rattle.zone_stretches.specs.Occurrences.{Occurrence, act_of, going_on_of, occurrences_in, occurrences_from, occurrences_of}
+use Rattle.zone_stretches.specs.Overlaps.{Order}
 
 -- ---- past events
 

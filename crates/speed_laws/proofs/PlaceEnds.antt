@@ -5,7 +5,6 @@ use Rattle.std.proofs.lemmas.List.Elements.{All-weaker}
 use Rattle.number_laws.proofs.Lists.{found_passes, All-found}
 use Rattle.path_geometry.specs.Motions.{axes_of, axis_end}
 use Rattle.path_geometry.specs.Path.{Point}
-use Rattle.protection_zones.specs.ZoneBoxes.{stand_after}
 use Rattle.speed_laws.proofs.Covers.{standing, along_at_end}
 use Rattle.speed_laws.proofs.Positions.{joins_at, after_is, left_at-cons}
 use Rattle.speed_laws.proofs.ZoneLemmas.{some_at}
@@ -14,6 +13,7 @@ use Rattle.speed_laws.specs.Places.{IsAlong, IsEndOf, IsAtPlace, IsAtEnd, Stands
 use Rattle.sync_types.proofs.Positions.{left_at-nil, end_moved}
 use Rattle.sync_types.specs.Items.{left_at, movement_of, end_in}
 use Rattle.sync_types.specs.declared.Item.{Item}
+use Rattle.zone_stretches.specs.ZoneBoxes.{stand_after}
 
 -- a place is at most the number of the motions
 pub place_within : (at : ℕ → ℤ) (items : List Item) (place : ℕ) (point : Point) → IsAtPlace at items place point → place ≤ length items

@@ -7,7 +7,7 @@ use Rattle.std.specs.Option.{option_map_or}
 use Rattle.sync_types.specs.Items.{end_in, left_at, movement_of}
 use Rattle.sync_types.proofs.Positions.{left_at-nil, end_moved}
 use Rattle.path_geometry.specs.Motions.{axes_of, axis_end}
-use Rattle.protection_zones.specs.ZoneBoxes.{stand_after}
+use Rattle.zone_stretches.specs.ZoneBoxes.{stand_after}
 use Rattle.speed_laws.specs.JoinedItems.{Joins, AllJoin}
 use Rattle.sync_types.specs.declared.Item.{Item}
 

@@ -12,11 +12,11 @@ use Rattle.job_types.specs.declared.job.ZoneLine.{ZoneLine}
 use Rattle.number_laws.proofs.Lists.{SomeOf}
 use Rattle.number_laws.specs.Fractions.{Fraction, IsIn, whole}
 use Rattle.path_geometry.specs.Path.{Point}
-use Rattle.protection_zones.specs.SoundStretches.{IsZoneOf}
-use Rattle.protection_zones.specs.Spans.{Beginning, entry_of_beginning, is_on_at_first}
-use Rattle.protection_zones.specs.Stretches.{StretchView, free_stretch, stretch_of_span}
-use Rattle.protection_zones.specs.Tenures.{Tenure}
-use Rattle.protection_zones.specs.ZoneBoxes.{boxes_of}
+use Rattle.zone_stretches.specs.SoundStretches.{IsZoneOf}
+use Rattle.zone_stretches.specs.Spans.{Beginning, entry_of_beginning, is_on_at_first}
+use Rattle.zone_stretches.specs.Stretches.{StretchView, free_stretch, stretch_of_span}
+use Rattle.zone_stretches.specs.Tenures.{Tenure}
+use Rattle.zone_stretches.specs.ZoneBoxes.{boxes_of}
 use Rattle.schedule_laws.specs.Schedules.{IsQuietRun}
 use Rattle.speed_laws.proofs.BoxPieces.{AxesWithin}
 use Rattle.speed_laws.proofs.ComparedPairs.{HoldsPlace, IsInPiece}

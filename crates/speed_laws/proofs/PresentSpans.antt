@@ -10,10 +10,6 @@ use Rattle.board_laws.specs.Zones.{Zones}
 use Rattle.channel_machine.specs.StartStates.{start_of}
 use Rattle.job_types.specs.Axes.{start_position}
 use Rattle.job_types.specs.Job.{JobView}
-use Rattle.protection_zones.proofs.EventLaws.{own_name}
-use Rattle.protection_zones.proofs.NameLaws.{occurrences_named}
-use Rattle.protection_zones.specs.Occurrences.{Occurrence, occurrences_from, occurrences_of}
-use Rattle.protection_zones.specs.Spans.{Beginning, Span, beginning_after, entry_of_beginning, first_beginning, is_on_at_first, span_to_end, span_until, spans_from, spans_of}
 use Rattle.schedule_laws.proofs.RunLaws.{speaks_of_states}
 use Rattle.schedule_laws.specs.Schedules.{IsQuietRun, IsRunOf, moves_by}
 use Rattle.speed_laws.proofs.Histories.{Ahead, HistoryTold, at_end, history_told}
@@ -30,6 +26,10 @@ use Rattle.sync_types.specs.Views.{StartView}
 use Rattle.sync_types.specs.declared.Grant.{Grant}
 use Rattle.sync_types.specs.declared.Item.{Item}
 use Rattle.sync_types.specs.declared.runs.EventId.{EventId}
+use Rattle.zone_stretches.proofs.EventLaws.{own_name}
+use Rattle.zone_stretches.proofs.NameLaws.{occurrences_named}
+use Rattle.zone_stretches.specs.Occurrences.{Occurrence, occurrences_from, occurrences_of}
+use Rattle.zone_stretches.specs.Spans.{Beginning, Span, beginning_after, entry_of_beginning, first_beginning, is_on_at_first, span_to_end, span_until, spans_from, spans_of}
 
 -- ---- spans by events
 

@@ -6,12 +6,6 @@ use Rattle.job_types.specs.Job.{JobView}
 use Rattle.job_types.specs.Zones.{zones_in_order}
 use Rattle.job_types.specs.declared.job.ZoneLine.{ZoneLine}
 use Rattle.number_laws.proofs.Lists.{SomeOf, SomeOf-flat_map, SomeOf-map, SomeOf-weaker}
-use Rattle.protection_zones.proofs.NameLaws.{occurrences_named}
-use Rattle.protection_zones.specs.Occurrences.{Occurrence, occurrences_of}
-use Rattle.protection_zones.specs.SoundStretches.{IsZoneOf}
-use Rattle.protection_zones.specs.Spans.{Span, spans_of}
-use Rattle.protection_zones.specs.Stretches.{StretchView, free_stretch, spans_between, stretch_of_span, stretches_held_by, stretches_in_tenure, stretches_of_zone}
-use Rattle.protection_zones.specs.Tenures.{Tenure, first_tenure, tenures_of}
 use Rattle.schedule_laws.specs.Schedules.{IsQuietRun, IsRunOf, moves_by}
 use Rattle.speed_laws.proofs.ComparedPairs.{IsCurrent}
 use Rattle.speed_laws.proofs.PastEvents.{first_are_past, is_past, kept_holds, made_counts, others_are_not}
@@ -25,6 +19,12 @@ use Rattle.sync_types.specs.Boards.{among, channel_numbers, first_board}
 use Rattle.sync_types.specs.Events.{IsLowestName}
 use Rattle.sync_types.specs.Runs.{first_stage, stage_after}
 use Rattle.sync_types.specs.declared.runs.EventId.{EventId}
+use Rattle.zone_stretches.proofs.NameLaws.{occurrences_named}
+use Rattle.zone_stretches.specs.Occurrences.{Occurrence, occurrences_of}
+use Rattle.zone_stretches.specs.SoundStretches.{IsZoneOf}
+use Rattle.zone_stretches.specs.Spans.{Span, spans_of}
+use Rattle.zone_stretches.specs.Stretches.{StretchView, free_stretch, spans_between, stretch_of_span, stretches_held_by, stretches_in_tenure, stretches_of_zone}
+use Rattle.zone_stretches.specs.Tenures.{Tenure, first_tenure, tenures_of}
 
 -- ---- a span of a tenure
 

@@ -15,12 +15,12 @@ use Rattle.job_types.specs.declared.job.ZoneLine.{ZoneLine}
 use Rattle.number_laws.proofs.Lists.{SomeOf, SomeOf-weaker}
 use Rattle.order_clocks.specs.Chains.{IsIn}
 use Rattle.order_clocks.specs.Happenings.{happening_of}
-use Rattle.protection_zones.proofs.HandLaws.{HandsAre, IsFor, carry_from, carry_to, owner_next, owners-append, owners_next, run_hands, step_hands}
-use Rattle.protection_zones.proofs.TenureLaws.{carry_none}
-use Rattle.protection_zones.specs.Occurrences.{Occurrence, act_of, going_on_of, occurrences_in, occurrences_from, occurrences_of}
-use Rattle.protection_zones.specs.SoundStretches.{IsZoneOf}
-use Rattle.protection_zones.specs.Spans.{Beginning}
-use Rattle.protection_zones.specs.Tenures.{Tenure, carry, changes_hands, first_tenure, tenures_from, tenures_of}
+use Rattle.zone_stretches.proofs.HandLaws.{HandsAre, IsFor, carry_from, carry_to, owner_next, owners-append, owners_next, run_hands, step_hands}
+use Rattle.zone_stretches.proofs.HandLaws.{carry_none}
+use Rattle.zone_stretches.specs.Occurrences.{Occurrence, act_of, going_on_of, occurrences_in, occurrences_from, occurrences_of}
+use Rattle.zone_stretches.specs.SoundStretches.{IsZoneOf}
+use Rattle.zone_stretches.specs.Spans.{Beginning}
+use Rattle.zone_stretches.specs.Tenures.{Tenure, carry, changes_hands, first_tenure, tenures_from, tenures_of}
 use Rattle.schedule_laws.proofs.EventLaws.{events_told}
 use Rattle.schedule_laws.proofs.RunLaws.{speaks_of_states}
 use Rattle.schedule_laws.specs.Schedules.{HasChannelNumbers, IsQuietRun, IsRunOf, moves_by}

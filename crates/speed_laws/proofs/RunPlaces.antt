@@ -8,8 +8,6 @@ use Rattle.board_laws.specs.Zones.{Zones}
 use Rattle.channel_machine.specs.StartStates.{start_of}
 use Rattle.job_types.specs.Job.{JobView}
 use Rattle.order_clocks.specs.Happenings.{going_of, happening_of}
-use Rattle.protection_zones.proofs.EventLaws.{own_name}
-use Rattle.protection_zones.specs.Occurrences.{Occurrence, act_of, going_on_of, occurrences_in, occurrences_from, occurrences_of}
 use Rattle.schedule_laws.specs.EventPlaces.{events_of}
 use Rattle.schedule_laws.specs.Schedules.{IsRunOf, moves_by}
 use Rattle.speed_laws.proofs.Histories.{none_in}
@@ -29,6 +27,8 @@ use Rattle.sync_types.specs.Starts.{IsSound}
 use Rattle.sync_types.specs.Turns.{after_moves, after_step, goings_in_step}
 use Rattle.sync_types.specs.declared.Grant.{Grant}
 use Rattle.sync_types.specs.declared.Item.{Item}
+use Rattle.zone_stretches.proofs.EventLaws.{own_name}
+use Rattle.zone_stretches.specs.Occurrences.{Occurrence, act_of, going_on_of, occurrences_in, occurrences_from, occurrences_of}
 
 -- ---- one step more
 

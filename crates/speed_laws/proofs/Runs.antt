@@ -6,12 +6,12 @@ use Rattle.std.proofs.lemmas.Option.{slice_get_within, get_or_from_slice_get}
 use Rattle.block_motions.proofs.MotionLaws.{ends_found}
 use Rattle.block_motions.specs.Motions.{IsMotionOf}
 use Rattle.path_geometry.specs.Motions.{axes_of, IsSound}
-use Rattle.protection_zones.specs.ZoneBoxes.{stand_after}
 use Rattle.speed_laws.proofs.Positions.{after_is, left_at-cons}
 use Rattle.speed_laws.specs.JoinedItems.{Joins, AllJoin}
 use Rattle.sync_types.proofs.Positions.{left_at-nil, end_moved}
 use Rattle.sync_types.specs.Items.{left_at, movement_of}
 use Rattle.sync_types.specs.declared.Item.{Item}
+use Rattle.zone_stretches.specs.ZoneBoxes.{stand_after}
 
 -- the motion of each place is one of a channel that owns these axes
 abbrev pub Follow : List Bool → (ℕ → ℤ) → List Item → Type 0

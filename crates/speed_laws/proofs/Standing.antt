@@ -12,7 +12,6 @@ use Rattle.job_types.specs.Axes.{start_position}
 use Rattle.job_types.specs.Job.{JobView}
 use Rattle.job_types.specs.SoundJob.{IsSoundJob}
 use Rattle.order_clocks.specs.Happenings.{going_of, happening_of}
-use Rattle.protection_zones.specs.Occurrences.{Occurrence, act_of, going_on_of, occurrences_in, occurrences_from}
 use Rattle.schedule_laws.specs.Schedules.{IsRunOf}
 use Rattle.speed_laws.proofs.Grants.{first_grant, granted_there}
 use Rattle.speed_laws.proofs.Histories.{found_in, none_in}
@@ -34,6 +33,7 @@ use Rattle.sync_types.specs.Turns.{after_step, goings_in_step}
 use Rattle.sync_types.specs.declared.Grant.{Grant}
 use Rattle.sync_types.specs.declared.Item.{Item}
 use Rattle.sync_types.specs.declared.Step.{Step}
+use Rattle.zone_stretches.specs.Occurrences.{Occurrence, act_of, going_on_of, occurrences_in, occurrences_from}
 
 at_append : (at : ℕ → ℤ) (ts us : List Telling) → at_after at (ts ++ us) ≡ at_after (at_after at ts) us
 at_append at [] us = refl

@@ -15,10 +15,10 @@ use Rattle.job_types.specs.SoundJob.{IsSoundJob, IsSoundZone}
 use Rattle.job_types.specs.Zones.{has_axis, zones_in_order}
 use Rattle.job_types.specs.declared.job.ZoneLine.{ZoneLine}
 use Rattle.number_laws.proofs.Lists.{All-found, found_passes}
-use Rattle.protection_zones.proofs.AscentLaws.{stretches_ascend}
-use Rattle.protection_zones.specs.SoundStretches.{HasZones, IsZoneOf}
 use Rattle.speed_laws.specs.ZoneTimes.{ZoneTimesInOrder}
 use Rattle.sync_types.specs.Views.{RunView}
+use Rattle.zone_stretches.proofs.AscentLaws.{stretches_ascend}
+use Rattle.zone_stretches.specs.SoundStretches.{HasZones, IsZoneOf}
 
 le_or_lt : (a b : ℕ) → (a ≤ b) ⊎ (b < a)
 le_or_lt a b = grind arith

@@ -12,9 +12,6 @@ use Rattle.order_clocks.proofs.ReadLaws.{no_alarm, part_acts, part_alarms, part_
 use Rattle.order_clocks.specs.Chains.{IsIn}
 use Rattle.order_clocks.specs.Happenings.{going_of, happening_of}
 use Rattle.order_clocks.specs.Watching.{wait_in}
-use Rattle.protection_zones.proofs.EventLaws.{Once, goings_once, starts_once}
-use Rattle.protection_zones.proofs.NameLaws.{in_mapped}
-use Rattle.protection_zones.specs.Occurrences.{Occurrence, act_of, going_on_of, occurrences_in}
 use Rattle.sync_types.proofs.BoardTests.{among_kept, no_truth}
 use Rattle.sync_types.specs.BoardActions.{after_effects, after_own_part, channels_started, channels_to_start, hold_of, state_after_action, state_after_alarm, state_of_actor}
 use Rattle.sync_types.specs.BoardAlarms.{alarm_of}
@@ -26,6 +23,9 @@ use Rattle.sync_types.specs.declared.Action.{Action}
 use Rattle.sync_types.specs.declared.Action.TheVariants.{WaitM, WaitE, Get, End}
 use Rattle.sync_types.specs.declared.Grant.{Grant}
 use Rattle.sync_types.specs.declared.Step.{Step}
+use Rattle.zone_stretches.proofs.EventLaws.{Once, goings_once, starts_once}
+use Rattle.zone_stretches.proofs.NameLaws.{in_mapped}
+use Rattle.zone_stretches.specs.Occurrences.{Occurrence, act_of, going_on_of, occurrences_in}
 
 -- ---- states
 

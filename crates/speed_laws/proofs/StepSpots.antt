@@ -8,7 +8,7 @@ use Rattle.board_laws.specs.Zones.{Zones}
 use Rattle.channel_machine.specs.StartStates.{start_of}
 use Rattle.job_types.specs.Job.{JobView}
 use Rattle.order_clocks.specs.Happenings.{going_of, happening_of}
-use Rattle.protection_zones.specs.Occurrences.{Occurrence, act_of, going_on_of, occurrences_in}
+use Rattle.zone_stretches.specs.Occurrences.{Occurrence, act_of, going_on_of, occurrences_in}
 use Rattle.schedule_laws.specs.Schedules.{moves_by}
 use Rattle.speed_laws.proofs.Histories.{found_in}
 use Rattle.speed_laws.proofs.JoinedRuns.{stage_joined}

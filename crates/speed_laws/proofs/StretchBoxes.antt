@@ -11,10 +11,6 @@ use Rattle.job_types.specs.declared.job.ZoneLine.{ZoneLine}
 use Rattle.number_laws.proofs.Lists.{SomeOf, SomeOf-weaker, SomeOf-map}
 use Rattle.number_laws.specs.Fractions.{Fraction}
 use Rattle.path_geometry.specs.Path.{Point}
-use Rattle.protection_zones.specs.Pieces.{piece_boxes}
-use Rattle.protection_zones.specs.Spans.{Beginning, is_on_at_first}
-use Rattle.protection_zones.specs.Stretches.{StretchView, stretch_between}
-use Rattle.protection_zones.specs.ZoneBoxes.{PlaceBox, boxes_of, shown_box}
 use Rattle.speed_laws.proofs.BoxPieces.{AxesWithin, some_piece}
 use Rattle.speed_laws.proofs.ComparedPairs.{HoldsPlace, IsInPiece}
 use Rattle.speed_laws.proofs.Covers.{Covers}
@@ -26,6 +22,10 @@ use Rattle.sync_types.specs.Starts as start
 use Rattle.sync_types.specs.Views.{RunView}
 use Rattle.sync_types.specs.declared.Item.{Item}
 use Rattle.sync_types.specs.declared.runs.EventId.{EventId}
+use Rattle.zone_stretches.specs.Pieces.{piece_boxes}
+use Rattle.zone_stretches.specs.Spans.{Beginning, is_on_at_first}
+use Rattle.zone_stretches.specs.Stretches.{StretchView, stretch_between}
+use Rattle.zone_stretches.specs.ZoneBoxes.{PlaceBox, boxes_of, shown_box}
 
 -- a zone that stands has one box, which covers it
 pub standing_covers : (zone : ZoneLine) (all : List Item) (line : ℕ) (at : ℕ → ℤ) (on : Bool) (point : Point) → on ≡ true

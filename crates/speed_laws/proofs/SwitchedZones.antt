@@ -14,8 +14,6 @@ use Rattle.order_clocks.proofs.MemberLaws.{in_append}
 use Rattle.order_clocks.proofs.ReadLaws.{part_acts, part_alarms}
 use Rattle.order_clocks.specs.Chains.{IsIn}
 use Rattle.order_clocks.specs.Happenings.{going_of, happening_of}
-use Rattle.protection_zones.proofs.NameLaws.{in_mapped, listed}
-use Rattle.protection_zones.specs.Occurrences.{Occurrence, act_of, going_on_of, occurrences_in, occurrences_from}
 use Rattle.speed_laws.proofs.Hands.{found_once}
 use Rattle.speed_laws.proofs.Histories.{found_in, none_in}
 use Rattle.speed_laws.proofs.PresentSpans.{told_on}
@@ -34,6 +32,8 @@ use Rattle.sync_types.specs.Turns.{after_step, goings_in_step}
 use Rattle.sync_types.specs.declared.Grant.{Grant}
 use Rattle.sync_types.specs.declared.Item.{Item}
 use Rattle.sync_types.specs.declared.Step.{Step}
+use Rattle.zone_stretches.proofs.NameLaws.{in_mapped, listed}
+use Rattle.zone_stretches.specs.Occurrences.{Occurrence, act_of, going_on_of, occurrences_in, occurrences_from}
 
 first_there : (xs : List ℕ) (x : ℕ) → first_of xs ≡ Some x → among xs x ≡ true
 first_there [] x is = absurd cc

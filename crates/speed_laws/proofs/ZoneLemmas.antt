@@ -10,7 +10,7 @@ use Rattle.number_laws.specs.Fractions.{Fraction, IsAtMost, IsIn}
 use Rattle.swept_boxes.specs.Boxes.{SpacePoint, IsInBox}
 use Rattle.job_types.specs.declared.job.ZoneLine.{ZoneLine}
 use Rattle.speed_laws.specs.Safety.{IsInZone, bound_at}
-use Rattle.protection_zones.specs.ZoneBoxes.{carried_low, carried_high, side_low, side_high, box_of, zone_box}
+use Rattle.zone_stretches.specs.ZoneBoxes.{carried_low, carried_high, side_low, side_high, box_of, zone_box}
 use Rattle.job_types.specs.Zones.{is_carrier, has_axis}
 
 -- (bound * u + t) * m ≤ x * u and low * u ≤ t give (bound + low) * m ≤ x

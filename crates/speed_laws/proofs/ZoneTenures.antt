@@ -11,10 +11,10 @@ use Rattle.job_types.specs.Zones.{has_axis}
 use Rattle.job_types.specs.declared.job.ZoneLine.{ZoneLine}
 use Rattle.number_laws.proofs.Lists.{SomeOf}
 use Rattle.order_clocks.specs.Chains.{IsIn}
-use Rattle.protection_zones.proofs.HandLaws.{HandsAre, carry_to, owner_next, owners_next}
-use Rattle.protection_zones.specs.Occurrences.{Occurrence}
-use Rattle.protection_zones.specs.Spans.{Beginning}
-use Rattle.protection_zones.specs.Tenures.{Tenure, carry, changes_hands, counted, tenure_after, tenure_until, tenures_from}
+use Rattle.zone_stretches.proofs.HandLaws.{HandsAre, carry_to, owner_next, owners_next}
+use Rattle.zone_stretches.specs.Occurrences.{Occurrence}
+use Rattle.zone_stretches.specs.Spans.{Beginning}
+use Rattle.zone_stretches.specs.Tenures.{Tenure, carry, changes_hands, counted, tenure_after, tenure_until, tenures_from}
 use Rattle.speed_laws.proofs.Hands.{counts_after, hand, hands, next_place}
 use Rattle.sync_types.proofs.BoardTests.{no_truth}
 use Rattle.sync_types.specs.Boards.{among, channel_numbers}

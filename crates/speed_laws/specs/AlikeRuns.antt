@@ -4,14 +4,14 @@ use Rattle.channel_machine.specs.StartStates.{start_of}
 use Rattle.job_types.specs.Job.{JobView}
 use Rattle.job_types.specs.SoundJob.{IsSoundJob}
 use Rattle.order_clocks.specs.Clocked.{IsOrderOf, moves_in}
-use Rattle.protection_zones.specs.Overlaps.{Order, may_overlap}
-use Rattle.protection_zones.specs.Pieces.{motion_at}
-use Rattle.protection_zones.specs.Stretches.{StretchView, all_stretches}
 use Rattle.schedule_laws.specs.Schedules.{IsMaximalOf, IsQuietRun}
 use Rattle.speed_laws.specs.Doings.{Doings}
 use Rattle.speed_laws.specs.Histories.{IsRunBy}
 use Rattle.sync_types.specs.Boards.{first_board}
 use Rattle.sync_types.specs.Views.{RunView}
+use Rattle.zone_stretches.specs.Overlaps.{Order, may_overlap}
+use Rattle.zone_stretches.specs.Pieces.{motion_at}
+use Rattle.zone_stretches.specs.Stretches.{StretchView, all_stretches}
 
 -- two stretches have one name and the same boxes, and these the same motions
 pub record AreAlike (run other : RunView) (left right : StretchView) : Type 0 where

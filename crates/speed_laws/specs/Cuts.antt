@@ -9,8 +9,6 @@ use Rattle.job_types.specs.declared.job.ZoneLine.{ZoneLine}
 use Rattle.order_clocks.specs.Before.{Before}
 use Rattle.order_clocks.specs.Counters.{row}
 use Rattle.order_clocks.specs.CourseOf.{course_of}
-use Rattle.protection_zones.specs.Occurrences.{Occurrence, occurrences_of}
-use Rattle.protection_zones.specs.Stretches.{StretchView, stretches_of_zone}
 use Rattle.schedule_laws.specs.EventPlaces.{events_of}
 use Rattle.schedule_laws.specs.Schedules.{IsQuietRun, IsRunOf, moves_by}
 use Rattle.speed_laws.specs.Doings.{Doings}
@@ -19,6 +17,8 @@ use Rattle.sync_types.specs.Boards.{among, channel_numbers, first_board}
 use Rattle.sync_types.specs.Runs.{Script, first_stage, stage_after}
 use Rattle.sync_types.specs.Views.{StartView}
 use Rattle.sync_types.specs.declared.runs.EventId.{EventId}
+use Rattle.zone_stretches.specs.Occurrences.{Occurrence, occurrences_of}
+use Rattle.zone_stretches.specs.Stretches.{StretchView, stretches_of_zone}
 
 -- how many events of a channel the run of these channels has
 abbrev pub event_count : Script → StartView → List ℕ → ℕ → ℕ

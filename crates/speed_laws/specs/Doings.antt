@@ -4,7 +4,7 @@ use Rattle.std.specs.Prelude.{ℕ, ℤ, List, [], ◌∷◌, ◌++◌, unwrap_or
 use Rattle.axis_sets.specs.Positions.{position_of}
 use Rattle.job_types.specs.Axes.{start_position}
 use Rattle.job_types.specs.Job.{JobView}
-pub use Rattle.protection_zones.specs.ZoneBoxes.{on_after, turned}
+pub use Rattle.zone_stretches.specs.ZoneBoxes.{on_after, turned}
 use Rattle.sync_types.specs.Items.{left_at}
 use Rattle.sync_types.specs.Runs.{Script}
 use Rattle.sync_types.specs.declared.Grant.{Grant}

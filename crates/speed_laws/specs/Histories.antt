@@ -4,7 +4,6 @@ use Rattle.std.specs.Prelude.{◌≡◌, ℕ, ℤ, ◌==◌, Bool, true, false, 
 use Rattle.channel_machine.specs.StartStates.{start_of}
 use Rattle.job_types.specs.Job.{JobView}
 use Rattle.order_clocks.specs.Clocked.{moves_in}
-use Rattle.protection_zones.specs.Occurrences.{Occurrence, occurrences_of}
 use Rattle.schedule_laws.specs.Schedules.{IsRunOf, moves_by}
 use Rattle.speed_laws.specs.Doings.{Doings}
 use Rattle.sync_types.specs.BoardActions.{hold_of}
@@ -15,6 +14,7 @@ use Rattle.sync_types.specs.Views.{RunView, StartView}
 use Rattle.sync_types.specs.declared.Grant.{Grant}
 use Rattle.sync_types.specs.declared.Item.{Item}
 use Rattle.sync_types.specs.declared.Step.{Step}
+use Rattle.zone_stretches.specs.Occurrences.{Occurrence, occurrences_of}
 
 -- what an event tells: whether the channel goes on in it, the line of the block where it acts, where axes stand, which zones are on,
 -- and, of an act, the items before it

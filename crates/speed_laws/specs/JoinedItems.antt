@@ -1,9 +1,9 @@
 -- Meaning. Items of which each begins where those before it left the axes.
 use Rattle.std.specs.Prelude.{◌≡◌, ℕ, ℤ, List, [], ◌∷◌, All, ⊤}
 use Rattle.path_geometry.specs.Motions.{axes_of, IsSound}
-use Rattle.protection_zones.specs.ZoneBoxes.{stand_after}
 use Rattle.sync_types.specs.Items.{movement_of}
 use Rattle.sync_types.specs.declared.Item.{Item}
+use Rattle.zone_stretches.specs.ZoneBoxes.{stand_after}
 
 -- a motion is sound, begins where its axes stand, and leaves them at its ends
 abbrev pub Joins : (ℕ → ℤ) → Item → Type 0

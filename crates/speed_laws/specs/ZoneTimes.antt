@@ -4,12 +4,12 @@ use Rattle.channel_machine.specs.StartStates.{start_of}
 use Rattle.job_types.specs.Job.{JobView}
 use Rattle.job_types.specs.SoundJob.{IsSoundJob}
 use Rattle.order_clocks.specs.Clocked.{moves_in}
-use Rattle.protection_zones.specs.Overlaps.{zone_times}
-use Rattle.protection_zones.specs.SoundStretches.{AreInOrder}
-use Rattle.protection_zones.specs.Stretches.{all_stretches}
 use Rattle.sync_types.specs.Boards.{Board, first_board}
 use Rattle.sync_types.specs.Runs.{ComesFrom}
 use Rattle.sync_types.specs.Views.{RunView}
+use Rattle.zone_stretches.specs.Overlaps.{zone_times}
+use Rattle.zone_stretches.specs.SoundStretches.{AreInOrder}
+use Rattle.zone_stretches.specs.Stretches.{all_stretches}
 
 -- the stretches of each zone come one after another, from the beginning of the job on
 abbrev pub ComeInOrder : JobView → Board → RunView → Type 0

@@ -8,9 +8,6 @@ ghost use Rattle.job_types.specs.Job.{JobView};
 ghost use Rattle.job_types.specs.SoundJob.{IsSoundJob};
 ghost use Rattle.job_types.specs.declared.job.ZoneLine.{ZoneLine};
 ghost use Rattle.order_clocks.specs.Clocked.{IsOrderOf, moves_in};
-ghost use Rattle.protection_zones.specs.Overlaps.{Order, compared_pairs};
-ghost use Rattle.protection_zones.specs.Pieces.{pair_meets};
-ghost use Rattle.protection_zones.specs.Stretches.{all_stretches};
 ghost use Rattle.schedule_laws.specs.Schedules.{IsQuietRun};
 ghost use Rattle.speed_laws.specs.AlikeRuns.{QuietRunsHaveAlikeZoneTimes};
 ghost use Rattle.speed_laws.specs.Cuts.{RunsAreCuts, ZonesHavePresentStretches};
@@ -22,6 +19,9 @@ ghost use Rattle.speed_laws.specs.ZoneTimes.{ZoneTimesInOrder};
 ghost use Rattle.sync_types.specs.Boards.{first_board};
 ghost use Rattle.sync_types.specs.Runs.{Script};
 ghost use Rattle.sync_types.specs.Views.{RunView, StartView};
+ghost use Rattle.zone_stretches.specs.Overlaps.{Order, compared_pairs};
+ghost use Rattle.zone_stretches.specs.Pieces.{pair_meets};
+ghost use Rattle.zone_stretches.specs.Stretches.{all_stretches};
 
 /// A law: where no compared pair of a run without a race that speaks for all runs of an accepted job meets, no two zones of
 /// different groups that are on meet in any state that small steps reach, in whatever order the channels act and however fast

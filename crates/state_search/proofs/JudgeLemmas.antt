@@ -8,9 +8,9 @@ use Rattle.job_types.specs.SoundJob.{IsSoundJob}
 use Rattle.product_run.proofs.JudgedRuns.{good}
 use Rattle.product_run.proofs.Motions.{runs_in_order_are_maximal}
 use Rattle.product_run.specs.RunLaws.{MovesSoundly}
-use Rattle.protection_zones.specs.ZoneBoxes.{IsFit}
 use Rattle.sync_types.specs.Views.{RunView}
 use Rattle.sync_types.specs.declared.Item.{Item}
+use Rattle.zone_stretches.specs.ZoneBoxes.{IsFit}
 
 fits : (item : Item) → MovesSoundly item → IsFit item
 fits item moves = record { sound = moves.sound; within = moves.within }

@@ -5,8 +5,6 @@ use Rattle.channel_machine.specs.StartStates.{start_of}
 use Rattle.job_types.specs.Job.{JobView}
 use Rattle.job_types.specs.SoundJob.{IsSoundJob}
 use Rattle.order_clocks.specs.Clocked.{ClocksView}
-use Rattle.protection_zones.specs.Overlaps.{Order}
-use Rattle.protection_zones.specs.Stretches.{StretchesView}
 use Rattle.speed_laws.proofs.AlikeRuns.{quiet_runs_have_the_same_zone_times}
 use Rattle.sync_types.proofs.Replays.{sequential_is_one}
 use Rattle.sync_types.specs.Runs.{first_stage}
@@ -20,6 +18,8 @@ use Rattle.turnmill.specs.JobDoings.{doings_of}
 use Rattle.turnmill.specs.Judged.{IsFirstRaceIn, IsJudgedInAnyOrder, IsOrderIn}
 use Rattle.turnmill.specs.Judgements.{IsJudgedByClocks}
 use Rattle.turnmill.specs.Output.{CallsForReport}
+use Rattle.zone_stretches.specs.Overlaps.{Order}
+use Rattle.zone_stretches.specs.Stretches.{StretchesView}
 
 module _ (job : JobView) (sound : IsSoundJob job) where
   alike_in_order : (run : RunView) (one : IsMaximalRunOf job (start_of job) run) (before : Order) → IsOrderIn job run before → HasNone job sound run → AreAlikeInOrder job run before

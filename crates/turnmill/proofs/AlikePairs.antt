@@ -6,10 +6,10 @@ use Rattle.job_types.specs.Job.{JobView}
 use Rattle.job_types.specs.Zones.{zones_in_order}
 use Rattle.job_types.specs.declared.job.ZoneLine.{ZoneLine}
 use Rattle.path_geometry.specs.declared.motion.Motion.{Motion}
-use Rattle.protection_zones.specs.Overlaps.{BoxPlace, Order, Pair, ZoneTime, are_compared, box_pairs, compared_pairs, may_overlap, pairs_by_group, pairs_of_zones, share_channel, share_place, stretch_pairs, zone_times}
-use Rattle.protection_zones.specs.Pieces.{boxes_in_pieces, motion_at, pair_meets, piece_boxes}
-use Rattle.protection_zones.specs.Stretches.{StretchView, StretchesView}
-use Rattle.protection_zones.specs.declared.stretches.ZoneBox.{ZoneBox}
+use Rattle.zone_stretches.specs.Overlaps.{BoxPlace, Order, Pair, ZoneTime, are_compared, box_pairs, compared_pairs, may_overlap, pairs_by_group, pairs_of_zones, share_channel, share_place, stretch_pairs, zone_times}
+use Rattle.zone_stretches.specs.Pieces.{boxes_in_pieces, motion_at, pair_meets, piece_boxes}
+use Rattle.zone_stretches.specs.Stretches.{StretchView, StretchesView}
+use Rattle.zone_stretches.specs.declared.stretches.ZoneBox.{ZoneBox}
 use Rattle.swept_boxes.specs.Boxes.{boxes_meet}
 use Rattle.swept_boxes.specs.declared.Box3.{Box3}
 use Rattle.sync_types.specs.Views.{RunView}

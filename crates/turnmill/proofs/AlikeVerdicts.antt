@@ -5,8 +5,8 @@ use Rattle.clash_check.specs.FirstAnswer.{first_some}
 use Rattle.clash_check.specs.Verdicts.{alarm_by, budget_verdict, meeting_verdict, or_else, stuck_by, verdict_by}
 use Rattle.stop_verdicts.specs.Stops.{has_channel, stops_of}
 use Rattle.job_types.specs.Job.{JobView}
-use Rattle.protection_zones.specs.Overlaps.{Order, compared_pairs}
-use Rattle.protection_zones.specs.Stretches.{StretchView}
+use Rattle.zone_stretches.specs.Overlaps.{Order, compared_pairs}
+use Rattle.zone_stretches.specs.Stretches.{StretchView}
 use Rattle.speed_laws.specs.AlikeRuns.{AreAlike, HaveAlikeZoneTimes, zones_in_run}
 use Rattle.sync_types.specs.Boards.{channel_numbers}
 use Rattle.sync_types.specs.Views.{RunView}

@@ -9,7 +9,7 @@ use Rattle.job_types.specs.SoundJob.{IsSoundJob}
 use Rattle.order_clocks.specs.Clocked.{moves_in}
 use Rattle.product_run.proofs.Motions.{runs_are_whole}
 use Rattle.channel_machine.specs.Scripts.{IsRunInOrder, script_of}
-use Rattle.protection_zones.specs.Overlaps.{Order}
+use Rattle.zone_stretches.specs.Overlaps.{Order}
 use Rattle.schedule_laws.proofs.RunLaws.{all_agree, speaks}
 use Rattle.schedule_laws.specs.Schedules.{HaveSameResult, IsQuietRun}
 use Rattle.speed_laws.specs.AlikeRuns.{HaveAlikeZoneTimes}

@@ -7,9 +7,6 @@ use Rattle.clash_check.specs.Counts.{count_of}
 use Rattle.clash_check.specs.FirstAnswer.{first_some}
 use Rattle.clash_check.specs.Verdicts.{alarm_by, budget_verdict, meeting_verdict, name_of, no_by, or_else, race_verdict, stops_of, stuck_by, verdict_by}
 use Rattle.job_types.specs.Job.{JobView}
-use Rattle.protection_zones.specs.Overlaps.{Order, Pair, compared_pairs}
-use Rattle.protection_zones.specs.Pieces.{pair_meets}
-use Rattle.protection_zones.specs.Stretches.{StretchesView}
 use Rattle.sync_types.specs.Views.{RunView}
 use Rattle.sync_types.specs.declared.ChannelEnd.{ChannelEnd}
 use Rattle.sync_types.specs.declared.ChannelEnd.TheVariants as end
@@ -18,6 +15,9 @@ use Rattle.sync_types.specs.declared.verdicts.PlaceName.{PlaceName}
 use Rattle.sync_types.specs.declared.verdicts.Verdict.{Verdict}
 use Rattle.sync_types.specs.declared.verdicts.Verdict.TheVariants as verdicts
 use Rattle.turnmill.specs.Judged.{HasFinished, HasFirstMeeting, IsClear, IsFirstRaceIn, IsJudgedInOrder, zone_time_in}
+use Rattle.zone_stretches.specs.Overlaps.{Order, Pair, compared_pairs}
+use Rattle.zone_stretches.specs.Pieces.{pair_meets}
+use Rattle.zone_stretches.specs.Stretches.{StretchesView}
 
 -- ---- the first that fits
 

@@ -14,10 +14,10 @@ use Rattle.product_run.proofs.JudgedRuns.{comes, few, few_in_all, good}
 use Rattle.product_run.specs.RunLaws.{MovesSoundly}
 use Rattle.product_run.specs.RunLaws as law
 use Rattle.channel_machine.specs.Scripts.{IsMaximalRunOf, IsRunInOrder}
-use Rattle.protection_zones.proofs.ToldRuns.{told_of}
-use Rattle.protection_zones.specs.SoundStretches.{IsOfSize}
-use Rattle.protection_zones.specs.Stretches.{StretchesView, all_stretches}
-use Rattle.protection_zones.specs.ZoneBoxes.{IsFit}
+use Rattle.zone_stretches.proofs.ToldRuns.{told_of}
+use Rattle.zone_stretches.specs.SoundStretches.{IsOfSize}
+use Rattle.zone_stretches.specs.Stretches.{StretchesView, all_stretches}
+use Rattle.zone_stretches.specs.ZoneBoxes.{IsFit}
 use Rattle.sync_types.specs.Boards.{first_board}
 use Rattle.sync_types.specs.Runs.{ComesFrom}
 use Rattle.sync_types.specs.Views.{RunView, StartView}

@@ -15,10 +15,10 @@ use Rattle.order_clocks.specs.Clocked.{moves_in}
 use Rattle.order_clocks.specs.RaceOrder.{IsUpTo, numbers_of}
 use Rattle.order_clocks.specs.Races.{IsFirst, IsFirstAt, IsRace}
 use Rattle.channel_machine.specs.Scripts.{IsRunInOrder, run_of, script_of}
-use Rattle.protection_zones.proofs.OneOrder.{orders_compare_the_same}
-use Rattle.protection_zones.specs.Overlaps.{Order, Pair, compared_pairs}
-use Rattle.protection_zones.specs.Pieces.{pair_meets}
-use Rattle.protection_zones.specs.Stretches.{StretchesView}
+use Rattle.zone_stretches.proofs.OneOrder.{orders_compare_the_same}
+use Rattle.zone_stretches.specs.Overlaps.{Order, Pair, compared_pairs}
+use Rattle.zone_stretches.specs.Pieces.{pair_meets}
+use Rattle.zone_stretches.specs.Stretches.{StretchesView}
 use Rattle.sync_types.proofs.Replays.{sequential_is_one}
 use Rattle.sync_types.specs.Boards.{Board}
 use Rattle.sync_types.specs.Runs.{first_stage}

@@ -9,8 +9,8 @@ use Rattle.job_types.specs.Job.{JobView}
 use Rattle.job_types.specs.SoundJob.{IsSoundJob}
 use Rattle.fault_codes.specs.declared.Refusal.{Refusal}
 use Rattle.channel_machine.specs.Scripts.{IsRunInOrder, script_of}
-use Rattle.protection_zones.specs.Overlaps.{Order}
-use Rattle.protection_zones.specs.Stretches.{StretchesView}
+use Rattle.zone_stretches.specs.Overlaps.{Order}
+use Rattle.zone_stretches.specs.Stretches.{StretchesView}
 use Rattle.schedule_laws.proofs.RunLaws.{all_agree, speaks}
 use Rattle.schedule_laws.specs.Schedules.{IsQuietRun}
 use Rattle.sync_types.specs.Views.{RunView}

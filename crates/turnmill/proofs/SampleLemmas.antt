@@ -13,8 +13,8 @@ use Rattle.fault_codes.specs.declared.Refusal.{Refusal}
 use Rattle.order_clocks.specs.Clocked.{ClocksView}
 use Rattle.order_clocks.specs.Tells.{is_before_in}
 use Rattle.channel_machine.specs.Scripts.{IsRunInOrder}
-use Rattle.protection_zones.specs.Overlaps.{Order}
-use Rattle.protection_zones.specs.Stretches.{StretchesView}
+use Rattle.zone_stretches.specs.Overlaps.{Order}
+use Rattle.zone_stretches.specs.Stretches.{StretchesView}
 use Rattle.sample_jobs.specs.Samples.{sample_bytes}
 use Rattle.sample_laws.proofs.Accepted.{sample_accepted}
 use Rattle.sync_types.specs.Views.{RunView}

@@ -8,9 +8,9 @@ use Rattle.job_types.specs.Job.{JobView}
 use Rattle.order_clocks.specs.Clocked.{IsOrderOf, moves_in}
 use Rattle.order_clocks.specs.Races.{IsFirst, IsRace}
 use Rattle.channel_machine.specs.Scripts.{IsMaximalRunOf, IsRunInOrder}
-use Rattle.protection_zones.specs.Overlaps.{Order, Pair, compared_pairs}
-use Rattle.protection_zones.specs.Pieces.{pair_meets}
-use Rattle.protection_zones.specs.Stretches.{StretchesView, all_stretches}
+use Rattle.zone_stretches.specs.Overlaps.{Order, Pair, compared_pairs}
+use Rattle.zone_stretches.specs.Pieces.{pair_meets}
+use Rattle.zone_stretches.specs.Stretches.{StretchesView, all_stretches}
 use Rattle.sync_types.specs.Boards.{Board, first_board}
 use Rattle.sync_types.specs.Views.{RunView}
 use Rattle.sync_types.specs.declared.ChannelEnd.{ChannelEnd}

@@ -3,11 +3,11 @@ use Rattle.std.specs.Prelude.{◌≡◌}
 use Rattle.job_types.specs.Job.{JobView}
 use Rattle.order_clocks.specs.Clocked.{ClocksView}
 use Rattle.order_clocks.specs.Tells.{is_before_in}
-use Rattle.protection_zones.specs.Stretches.{StretchesView}
-use Rattle.protection_zones.specs.Told.{IsTold}
 use Rattle.sync_types.specs.Views.{RunView}
 use Rattle.sync_types.specs.declared.verdicts.Verdict.{Verdict}
 use Rattle.turnmill.specs.Judged.{IsJudgedInAnyOrder, zone_time_in}
+use Rattle.zone_stretches.specs.Stretches.{StretchesView}
+use Rattle.zone_stretches.specs.Told.{IsTold}
 
 -- the verdict on a run of the job, by these clocks and these stretches
 pub record IsJudgedByClocks (job : JobView) (run : RunView) (clocks : ClocksView) (stretches : StretchesView) (verdict : Verdict) : Type 0 where

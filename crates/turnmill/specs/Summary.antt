@@ -10,7 +10,7 @@ use Rattle.job_report.specs.Summary.{summary_bytes}
 use Rattle.job_report.specs.declared.summaries.Figures.{Figures}
 use Rattle.job_types.specs.Job.{JobView}
 use Rattle.fault_codes.specs.declared.Refusal.{Refusal}
-use Rattle.protection_zones.specs.Overlaps.{Order}
+use Rattle.zone_stretches.specs.Overlaps.{Order}
 use Rattle.sync_types.specs.Views.{RunView}
 use Rattle.sync_types.specs.declared.Item.{Item}
 use Rattle.sync_types.specs.declared.Part.{Part}

@@ -1,15 +1,16 @@
 -- The boxes are compared where nothing comes before.
-use Rattle.std.proofs.Common.{◌∙◌, ℕ, List, [], ap, subst, sym}
+use Rattle.std.proofs.Common.{◌∙◌, ℕ, List, ap, subst, sym}
 use Rattle.order_clocks.specs.Tells.{is_before_in}
 use Rattle.clash_check.proofs.NearLaws.{timed_by}
 use Rattle.clash_check.proofs.PairLaws.{all_listed}
 use Rattle.clash_check.proofs.VerdictLaws.{by_boxes, comes_before}
-use Rattle.clash_check.specs.Ascents.{IsTimed}
-use Rattle.clash_check.specs.Meetings.{Case, verdict_by_names}
-use Rattle.clash_check.specs.Times.{lists_in}
+use Rattle.zone_stretches.specs.Ascents.{IsTimed}
+use Rattle.clash_check.specs.Meetings.{verdict_by_names}
+use Rattle.zone_stretches.specs.Cases.{Case}
+use Rattle.zone_stretches.specs.Times.{lists_in}
 use Rattle.clash_check.specs.ZonePairs.{first_of_pairs}
-use Rattle.protection_zones.specs.Overlaps.{zone_times}
-use Rattle.protection_zones.specs.Stretches.{StretchView}
+use Rattle.zone_stretches.specs.Overlaps.{zone_times}
+use Rattle.zone_stretches.specs.Stretches.{StretchView}
 use Rattle.clash_check.proofs.judging.judge_shared.Goals as goal
 
 pub returns-in-Some : goal.returns-in-Some
@@ -27,5 +28,5 @@ returns g c =
 
 pub first_by_threads-names-requires-clause-timed : goal.first_by_threads-names-requires-clause-timed
 first_by_threads-names-requires-clause-timed g c = λ _ _.
-    subst (λ (lists : List (List StretchView)). IsTimed (is_before_in c.args.clocks.now.rows) [] lists) (sym c.lists_of-lists.ensures)
+    subst (λ (lists : List (List StretchView)). IsTimed (is_before_in c.args.clocks.now.rows) lists) (sym c.lists_of-lists.ensures)
     (timed_by c.args.job.now c.args.run.now c.args.stretches.now c.args.clocks.now c.requires.whole)

@@ -6,8 +6,9 @@ use Rattle.clash_check.proofs.FirstLaws.{first_some-drop_more}
 use Rattle.clash_check.proofs.KeptLaws.{named_met, not_named, one_and_near}
 use Rattle.clash_check.proofs.PlaceLaws.{no_box}
 use Rattle.clash_check.specs.FirstAnswer.{first_some}
-use Rattle.clash_check.specs.Meetings.{Case, Names, names_where_met, place_of}
-use Rattle.protection_zones.specs.declared.stretches.ZoneBox.{ZoneBox}
+use Rattle.clash_check.specs.Meetings.{Names, names_where_met}
+use Rattle.zone_stretches.specs.Cases.{Case, place_of}
+use Rattle.zone_stretches.specs.declared.stretches.ZoneBox.{ZoneBox}
 use Rattle.clash_check.proofs.meetings.first_by_pieces.Goals as goal
 
 pub returns-then-pieces_touch-clause-names : goal.returns-then-pieces_touch-clause-names

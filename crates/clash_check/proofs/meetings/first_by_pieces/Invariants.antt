@@ -2,8 +2,9 @@ use Rattle.std.proofs.Common.{◌≡◌, ◌≤◌, ◌<◌, ◌-◌, true, drop
 use Rattle.clash_check.specs.FirstAnswer.{first_some}
 use Rattle.clash_check.specs.Keeping.{IsKeptOf, is_near}
 use Rattle.clash_check.specs.Meetings as model
-use Rattle.protection_zones.specs.declared.stretches.ZoneBox.{ZoneBox}
 use Rattle.order_clocks.specs.Tells.{is_before_in}
+use Rattle.zone_stretches.specs.Cases.{place_of}
+use Rattle.zone_stretches.specs.declared.stretches.ZoneBox.{ZoneBox}
 use Rattle.clash_check.proofs.meetings.first_by_pieces.Given as goal
 
 abbrev pub invariant-loop-place : goal.invariant-loop-place
@@ -13,9 +14,9 @@ invariant-loop-place l =
       near : (d : ZoneBox) → l.place < length l.boxes → is_near l.shared l.own (get_or l.boxes l.place d) ≡ true;
       kept : IsKeptOf l.scene.job.now l.scene.run.now l.right.zone.now l.right.stretch.now l.boxes l.kept;
       names : first_some (λ later. model.names_where_met (record { job = l.scene.job.now; run = l.scene.run.now; before = is_before_in l.scene.clocks.now.rows }) l.shared
-          (model.place_of l.left.zone.now l.left.stretch.now l.own) (model.place_of l.right.zone.now l.right.stretch.now later)) (drop l.place l.boxes)
+          (place_of l.left.zone.now l.left.stretch.now l.own) (place_of l.right.zone.now l.right.stretch.now later)) (drop l.place l.boxes)
           ≡ first_some (λ later. model.names_where_met (record { job = l.scene.job.now; run = l.scene.run.now; before = is_before_in l.scene.clocks.now.rows }) l.shared
-          (model.place_of l.left.zone.now l.left.stretch.now l.own) (model.place_of l.right.zone.now l.right.stretch.now later)) (drop l.from l.boxes);
+          (place_of l.left.zone.now l.left.stretch.now l.own) (place_of l.right.zone.now l.right.stretch.now later)) (drop l.from l.boxes);
     }
 
 abbrev pub decreases-loop-place : goal.decreases-loop-place

@@ -6,8 +6,8 @@ use Rattle.clash_check.proofs.PassedLaws.{none_passed}
 use Rattle.clash_check.specs.Keeping.{IsKeptOf}
 use Rattle.clash_check.specs.Passing.{ArePassed}
 use Rattle.clash_check.specs.declared.nearby.Kept.{Kept}
-use Rattle.protection_zones.specs.Stretches.{StretchView}
-use Rattle.protection_zones.specs.declared.stretches.ZoneBox.{ZoneBox}
+use Rattle.zone_stretches.specs.Stretches.{StretchView}
+use Rattle.zone_stretches.specs.declared.stretches.ZoneBox.{ZoneBox}
 use Rattle.clash_check.proofs.meetings.first_in_all_boxes.Goals as goal
 
 pub loop-own-init : goal.loop-own-init

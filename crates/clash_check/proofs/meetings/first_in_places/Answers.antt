@@ -7,8 +7,9 @@ use Rattle.clash_check.proofs.FirstLaws.{first_some-drop_more}
 use Rattle.clash_check.proofs.PassedLaws.{none_passed}
 use Rattle.clash_check.proofs.PlaceLaws.{no_box, passing_places, first_between}
 use Rattle.clash_check.specs.FirstAnswer.{first_some}
-use Rattle.clash_check.specs.Meetings.{Case, Names, place_of, first_touched_among}
-use Rattle.protection_zones.specs.declared.stretches.ZoneBox.{ZoneBox}
+use Rattle.clash_check.specs.Meetings.{Names, first_touched_among}
+use Rattle.zone_stretches.specs.Cases.{Case, place_of}
+use Rattle.zone_stretches.specs.declared.stretches.ZoneBox.{ZoneBox}
 use Rattle.clash_check.proofs.meetings.first_in_places.Goals as goal
 
 pub place_range-range-requires : goal.place_range-range-requires

@@ -2,11 +2,12 @@ use Rattle.std.proofs.Common.{◌≡◌, drop, true}
 use Rattle.clash_check.specs.FirstAnswer.{first_some}
 use Rattle.clash_check.specs.Meetings as model
 use Rattle.order_clocks.specs.Tells.{is_before_in}
+use Rattle.zone_stretches.specs.Cases.{place_of}
 use Rattle.clash_check.proofs.meetings.first_in_places.Given as goal
 
 abbrev pub invariant-loop-own : goal.invariant-loop-own
 invariant-loop-own l =
     first_some (λ own. model.first_touched_among (record { job = l.scene.job.now; run = l.scene.run.now; before = is_before_in l.scene.clocks.now.rows }) true
-    (model.place_of l.left.zone.now l.left.stretch.now own) l.right.zone.now l.right.stretch.now l.others) (drop l.own-index l.boxes)
+    (place_of l.left.zone.now l.left.stretch.now own) l.right.zone.now l.right.stretch.now l.others) (drop l.own-index l.boxes)
     ≡ first_some (λ own. model.first_touched_among (record { job = l.scene.job.now; run = l.scene.run.now; before = is_before_in l.scene.clocks.now.rows }) true
-    (model.place_of l.left.zone.now l.left.stretch.now own) l.right.zone.now l.right.stretch.now l.others) l.boxes
+    (place_of l.left.zone.now l.left.stretch.now own) l.right.zone.now l.right.stretch.now l.others) l.boxes

@@ -1,15 +1,16 @@
 use Rattle.std.proofs.Common.{◌≡◌, ◌∙◌, ◌+◌, get_or, drop, take, refl, sym, ap, subst, Bool, false, Option, arith}
 use Rattle.std.specs.Option.{option_or}
 use Rattle.order_clocks.specs.Tells.{is_before_in}
-use Rattle.clash_check.proofs.AscentLaws.{passing_at}
+use Rattle.zone_stretches.proofs.ChainLaws.{passing_at}
 use Rattle.clash_check.proofs.FirstLaws.{first_some-drop_more}
 use Rattle.clash_check.proofs.NearLaws.{first_of_part}
 use Rattle.clash_check.proofs.PassedLaws.{empty_memory}
-use Rattle.clash_check.proofs.WalkLaws.{places_of, walk_on}
-use Rattle.clash_check.specs.Ascents.{IsBetween, PassFirst, passes}
+use Rattle.zone_stretches.proofs.WalkLaws.{places_of, walk_on}
+use Rattle.zone_stretches.specs.Ascents.{IsBetween, PassFirst, passes}
 use Rattle.clash_check.specs.FirstAnswer.{first_some}
-use Rattle.clash_check.specs.Meetings.{Case, Names, first_against}
-use Rattle.protection_zones.specs.Stretches.{StretchView}
+use Rattle.clash_check.specs.Meetings.{Names, first_against}
+use Rattle.zone_stretches.specs.Cases.{Case}
+use Rattle.zone_stretches.specs.Stretches.{StretchView}
 use Rattle.clash_check.proofs.meetings.first_of_ascending.Goals as goal
 
 pub range_of-range-requires-clause-known : goal.range_of-range-requires-clause-known

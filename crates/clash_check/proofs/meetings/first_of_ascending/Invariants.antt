@@ -1,9 +1,9 @@
 use Rattle.std.proofs.Common.{◌≡◌, drop}
-use Rattle.clash_check.specs.Ascents.{IsWalk}
 use Rattle.clash_check.specs.FirstAnswer.{first_some}
 use Rattle.clash_check.specs.Meetings as model
 use Rattle.clash_check.specs.Passing.{IsMemoryOfAny}
 use Rattle.order_clocks.specs.Tells.{is_before_in}
+use Rattle.zone_stretches.specs.Ascents.{IsWalk}
 use Rattle.clash_check.proofs.meetings.first_of_ascending.Given as goal
 
 abbrev pub invariant-loop-stretch : goal.invariant-loop-stretch

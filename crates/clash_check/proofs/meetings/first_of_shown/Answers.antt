@@ -4,10 +4,11 @@ use Rattle.std.specs.Option.{option_or}
 use Rattle.order_clocks.specs.Tells.{is_before_in}
 use Rattle.clash_check.proofs.ShownLaws.{next_within, skip, skip_one}
 use Rattle.clash_check.specs.FirstAnswer.{first_some}
-use Rattle.clash_check.specs.Meetings.{Case, Names, first_in_stretches}
+use Rattle.clash_check.specs.Meetings.{Names, first_in_stretches}
+use Rattle.zone_stretches.specs.Cases.{Case}
 use Rattle.clash_check.specs.Passing.{IsMemory, IsMemoryOfAny}
 use Rattle.clash_check.specs.Shown.{next_shown}
-use Rattle.protection_zones.specs.Stretches.{StretchView}
+use Rattle.zone_stretches.specs.Stretches.{StretchView}
 use Rattle.clash_check.proofs.meetings.first_of_shown.Goals as goal
 
 pub loop-place-init : goal.loop-place-init

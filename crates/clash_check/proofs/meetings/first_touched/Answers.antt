@@ -4,10 +4,11 @@ use Rattle.clash_check.proofs.KeptLaws.{all_far, past_far}
 use Rattle.clash_check.proofs.PassedLaws.{no_names, none_met}
 use Rattle.clash_check.specs.FirstAnswer.{first_some}
 use Rattle.clash_check.specs.Passing.{meets_none}
-use Rattle.clash_check.specs.Meetings.{Case, Names, first_touched_among, names_where_met, place_of}
-use Rattle.protection_zones.specs.Overlaps.{BoxPlace}
-use Rattle.protection_zones.specs.Pieces.{motion_at}
-use Rattle.protection_zones.specs.Stretches.{StretchView}
+use Rattle.clash_check.specs.Meetings.{Names, first_touched_among, names_where_met}
+use Rattle.zone_stretches.specs.Cases.{Case, place_of}
+use Rattle.zone_stretches.specs.Overlaps.{BoxPlace}
+use Rattle.zone_stretches.specs.Pieces.{motion_at}
+use Rattle.zone_stretches.specs.Stretches.{StretchView}
 use Rattle.path_geometry.specs.declared.motion.Motion.{Motion}
 use Rattle.clash_check.proofs.meetings.first_touched.Goals as goal
 

@@ -1,11 +1,11 @@
 use Rattle.std.proofs.Common.{◌≡◌, ◌∙◌, ◌&&◌, Bool, true, List, get_or, ap, refl, sym}
 use Rattle.std.proofs.lemmas.List.{get_or_default}
 use Rattle.std.specs.List.{list_any}
-use Rattle.clash_check.specs.Meetings.{place_of}
-use Rattle.protection_zones.specs.Pieces.{piece_boxes}
-use Rattle.protection_zones.specs.declared.stretches.ZoneBox.{ZoneBox}
 use Rattle.swept_boxes.specs.Boxes.{boxes_meet}
 use Rattle.swept_boxes.specs.declared.Box3.{Box3}
+use Rattle.zone_stretches.specs.Cases.{place_of}
+use Rattle.zone_stretches.specs.Pieces.{piece_boxes}
+use Rattle.zone_stretches.specs.declared.stretches.ZoneBox.{ZoneBox}
 use Rattle.clash_check.proofs.meetings.pieces_touch.Goals as goal
 
 passed : (m a x : Bool) → m ≡ a → m ≡ true → x ≡ (a && x)

@@ -1,6 +1,6 @@
 use Rattle.order_clocks.specs.Tells.{is_before_in}
 use Rattle.clash_check.proofs.NearLaws.{timed_own}
-use Rattle.clash_check.proofs.WalkLaws.{ascends_there}
+use Rattle.zone_stretches.proofs.WalkLaws.{ascends_there}
 use Rattle.clash_check.proofs.numbers.add_from_place.Goals as goal
 
 pub add_with-requires : goal.add_with-requires

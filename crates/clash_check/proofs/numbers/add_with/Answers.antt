@@ -3,10 +3,10 @@ use Rattle.std.specs.List.{flat_map}
 use Rattle.std.proofs.lemmas.List.{append-nil}
 use Rattle.order_clocks.specs.Tells.{is_before_in}
 use Rattle.clash_check.proofs.NumberLaws.{added_part, numbers_with_left}
-use Rattle.clash_check.proofs.TimeLaws.{no_times_left, within_lists, past_lists}
+use Rattle.zone_stretches.proofs.TimeLaws.{no_times_left, past_lists, within_lists}
 use Rattle.clash_check.specs.NumberSteps.{numbers_with}
-use Rattle.clash_check.specs.Times.{lists_in}
-use Rattle.protection_zones.specs.Overlaps.{ZoneTime}
+use Rattle.zone_stretches.specs.Times.{lists_in}
+use Rattle.zone_stretches.specs.Overlaps.{ZoneTime}
 use Rattle.clash_check.proofs.numbers.add_with.Goals as goal
 
 pub loop-place-preserved : goal.loop-place-preserved

@@ -1,8 +1,8 @@
 use Rattle.std.proofs.Common.{◌≡◌, ◌++◌}
 use Rattle.std.specs.List.{flat_map}
 use Rattle.clash_check.specs.NumberSteps.{numbers_with}
-use Rattle.clash_check.specs.Times.{lists_in, times_from}
 use Rattle.order_clocks.specs.Tells.{is_before_in}
+use Rattle.zone_stretches.specs.Times.{lists_in, times_from}
 use Rattle.clash_check.proofs.numbers.add_with.Given as goal
 
 abbrev pub invariant-loop-place : goal.invariant-loop-place

@@ -1,6 +1,6 @@
 use Rattle.order_clocks.specs.Tells.{is_before_in}
 use Rattle.clash_check.proofs.NearLaws.{timed_other}
-use Rattle.clash_check.proofs.WalkLaws.{ascends_there}
+use Rattle.zone_stretches.proofs.WalkLaws.{ascends_there}
 use Rattle.clash_check.proofs.numbers.add_with_place.Goals as goal
 
 pub count_of_zones-count-requires : goal.count_of_zones-count-requires

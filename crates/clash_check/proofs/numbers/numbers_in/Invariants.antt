@@ -1,7 +1,7 @@
 use Rattle.std.proofs.Common.{◌≡◌, ◌++◌}
 use Rattle.clash_check.specs.NumberSteps.{numbers_in_times}
-use Rattle.clash_check.specs.Times.{lists_in, times_from}
 use Rattle.order_clocks.specs.Tells.{is_before_in}
+use Rattle.zone_stretches.specs.Times.{lists_in, times_from}
 use Rattle.clash_check.proofs.numbers.numbers_in.Given as goal
 
 abbrev pub invariant-loop-place : goal.invariant-loop-place

@@ -4,7 +4,7 @@ use Rattle.std.proofs.lemmas.List.Sums.{sum_by-drop_more}
 use Rattle.order_clocks.specs.Tells.{is_before_in}
 use Rattle.clash_check.proofs.TimeLaws.{counted_more, counted_all, sum_past}
 use Rattle.clash_check.specs.PairCounts.{count_against}
-use Rattle.protection_zones.specs.Stretches.{StretchView}
+use Rattle.zone_stretches.specs.Stretches.{StretchView}
 use Rattle.clash_check.proofs.pair_counts.count_all.Goals as goal
 
 pub loop-left-preserved : goal.loop-left-preserved

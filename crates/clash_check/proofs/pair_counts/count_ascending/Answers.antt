@@ -2,13 +2,13 @@ use Rattle.std.proofs.Common.{◌≡◌, ◌∙◌, ◌+◌, ◌<◌, List, drop
 use Rattle.std.specs.List.{sum_by}
 use Rattle.std.proofs.lemmas.List.Sums.{sum_by-drop_more}
 use Rattle.order_clocks.specs.Tells.{is_before_in}
-use Rattle.clash_check.proofs.AscentLaws.{passing_at}
+use Rattle.zone_stretches.proofs.ChainLaws.{passing_at}
 use Rattle.clash_check.proofs.TimeLaws.{counted_more, counted_all, sum_past}
-use Rattle.clash_check.proofs.WalkLaws.{places_of, walk_on}
-use Rattle.clash_check.specs.Ascents.{IsBetween, PassFirst, passes}
+use Rattle.zone_stretches.proofs.WalkLaws.{places_of, walk_on}
+use Rattle.zone_stretches.specs.Ascents.{IsBetween, PassFirst, passes}
 use Rattle.clash_check.specs.PairCounts.{count_against}
 use Rattle.clash_check.specs.Running.{IsSum}
-use Rattle.protection_zones.specs.Stretches.{StretchView}
+use Rattle.zone_stretches.specs.Stretches.{StretchView}
 use Rattle.clash_check.proofs.pair_counts.count_ascending.Goals as goal
 
 pub range_of-range-requires-clause-known : goal.range_of-range-requires-clause-known

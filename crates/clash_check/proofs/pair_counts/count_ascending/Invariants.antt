@@ -1,6 +1,6 @@
 use Rattle.std.proofs.Common.{drop}
 use Rattle.std.specs.List.{sum_by}
-use Rattle.clash_check.specs.Ascents.{IsWalk}
+use Rattle.zone_stretches.specs.Ascents.{IsWalk}
 use Rattle.clash_check.specs.PairCounts.{count_against}
 use Rattle.clash_check.specs.Running.{IsSum, IsLatest}
 use Rattle.order_clocks.specs.Tells.{is_before_in}

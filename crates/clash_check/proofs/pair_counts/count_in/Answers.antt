@@ -1,8 +1,9 @@
 use Rattle.std.proofs.Common.{◌+◌, refl, ap, arith}
 use Rattle.order_clocks.specs.Tells.{is_before_in}
-use Rattle.clash_check.proofs.TimeLaws.{counted_more, counted_all, counted_from_place, no_times_left, within_lists, past_lists}
+use Rattle.clash_check.proofs.TimeLaws.{counted_more, counted_all, counted_from_place}
+use Rattle.zone_stretches.proofs.TimeLaws.{no_times_left, past_lists, within_lists}
 use Rattle.clash_check.specs.PairCounts.{count_in_times}
-use Rattle.clash_check.specs.Times.{lists_in}
+use Rattle.zone_stretches.specs.Times.{lists_in}
 use Rattle.clash_check.proofs.pair_counts.count_in.Goals as goal
 
 pub loop-place-preserved : goal.loop-place-preserved

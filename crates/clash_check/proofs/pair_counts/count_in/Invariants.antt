@@ -1,5 +1,5 @@
 use Rattle.clash_check.specs.PairCounts.{count_in_times}
-use Rattle.clash_check.specs.Times.{lists_in, times_from}
+use Rattle.zone_stretches.specs.Times.{lists_in, times_from}
 use Rattle.order_clocks.specs.Tells.{is_before_in}
 use Rattle.clash_check.proofs.TimeLaws.{IsCounted}
 use Rattle.clash_check.proofs.pair_counts.count_in.Given as goal

@@ -3,8 +3,8 @@ use Rattle.std.specs.List.{count_by, sum_by}
 use Rattle.std.proofs.lemmas.List.Sums.{sum_by-drop_more}
 use Rattle.clash_check.proofs.TimeLaws.{counted_more, counted_all, sum_past}
 use Rattle.clash_check.specs.PairCounts.{count_sharing}
-use Rattle.protection_zones.specs.Overlaps.{share_place}
-use Rattle.protection_zones.specs.declared.stretches.ZoneBox.{ZoneBox}
+use Rattle.zone_stretches.specs.Overlaps.{share_place}
+use Rattle.zone_stretches.specs.declared.stretches.ZoneBox.{ZoneBox}
 use Rattle.clash_check.proofs.pair_counts.count_sharing_all.Goals as goal
 
 pub loop-own-preserved : goal.loop-own-preserved

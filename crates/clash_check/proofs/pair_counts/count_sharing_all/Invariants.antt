@@ -1,6 +1,6 @@
 use Rattle.std.proofs.Common.{drop}
 use Rattle.std.specs.List.{count_by, sum_by}
-use Rattle.protection_zones.specs.Overlaps.{share_place}
+use Rattle.zone_stretches.specs.Overlaps.{share_place}
 use Rattle.clash_check.proofs.TimeLaws.{IsCounted}
 use Rattle.clash_check.proofs.pair_counts.count_sharing_all.Given as goal
 

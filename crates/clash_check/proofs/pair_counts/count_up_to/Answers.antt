@@ -1,12 +1,12 @@
-use Rattle.std.proofs.Common.{List, [], sym, ap, subst, ◌∙◌}
+use Rattle.std.proofs.Common.{List, sym, ap, subst, ◌∙◌}
 use Rattle.order_clocks.specs.Tells.{is_before_in}
 use Rattle.clash_check.proofs.CountLaws.{count_is}
 use Rattle.clash_check.specs.PairCounts.{capped, count_in_times}
 use Rattle.clash_check.proofs.NearLaws.{timed_by}
-use Rattle.clash_check.specs.Ascents.{IsTimed}
-use Rattle.clash_check.specs.Times.{times_from}
-use Rattle.protection_zones.specs.Overlaps.{zone_times}
-use Rattle.protection_zones.specs.Stretches.{StretchView}
+use Rattle.zone_stretches.specs.Ascents.{IsTimed}
+use Rattle.zone_stretches.specs.Times.{times_from}
+use Rattle.zone_stretches.specs.Overlaps.{zone_times}
+use Rattle.zone_stretches.specs.Stretches.{StretchView}
 use Rattle.clash_check.proofs.pair_counts.count_up_to.Goals as goal
 
 pub returns : goal.returns
@@ -18,5 +18,5 @@ returns c =
 
 pub count_in-requires : goal.count_in-requires
 count_in-requires c =
-    subst (λ (lists : List (List StretchView)). IsTimed (is_before_in c.args.clocks.now.rows) [] lists) (sym c.lists_of.ensures)
+    subst (λ (lists : List (List StretchView)). IsTimed (is_before_in c.args.clocks.now.rows) lists) (sym c.lists_of.ensures)
     (timed_by c.args.job.now c.requires.0 c.args.stretches.now c.args.clocks.now c.requires.1)

@@ -1,10 +1,11 @@
 use Rattle.std.proofs.Common.{◌+◌, List, refl, ap, arith}
 use Rattle.std.specs.List.{sum_by}
 use Rattle.order_clocks.specs.Tells.{is_before_in}
-use Rattle.clash_check.proofs.TimeLaws.{counted_more, counted_all, counted_with_place, no_times_left, within_lists, past_lists}
+use Rattle.clash_check.proofs.TimeLaws.{counted_more, counted_all, counted_with_place}
+use Rattle.zone_stretches.proofs.TimeLaws.{no_times_left, past_lists, within_lists}
 use Rattle.clash_check.specs.PairCounts.{count_of_zones}
-use Rattle.clash_check.specs.Times.{lists_in}
-use Rattle.protection_zones.specs.Overlaps.{ZoneTime}
+use Rattle.zone_stretches.specs.Times.{lists_in}
+use Rattle.zone_stretches.specs.Overlaps.{ZoneTime}
 use Rattle.clash_check.proofs.pair_counts.count_with.Goals as goal
 
 pub loop-place-preserved : goal.loop-place-preserved

@@ -1,6 +1,6 @@
 use Rattle.std.specs.List.{sum_by}
 use Rattle.clash_check.specs.PairCounts.{count_of_zones}
-use Rattle.clash_check.specs.Times.{lists_in, times_from}
+use Rattle.zone_stretches.specs.Times.{lists_in, times_from}
 use Rattle.order_clocks.specs.Tells.{is_before_in}
 use Rattle.clash_check.proofs.TimeLaws.{IsCounted}
 use Rattle.clash_check.proofs.pair_counts.count_with.Given as goal

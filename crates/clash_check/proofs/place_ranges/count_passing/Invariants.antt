@@ -1,6 +1,6 @@
 use Rattle.std.proofs.Common.{◌≡◌, ◌+◌, drop}
-use Rattle.clash_check.specs.Ascents.{leading}
 use Rattle.clash_check.specs.PlaceRanges.{passes_place}
+use Rattle.zone_stretches.specs.Ascents.{leading}
 use Rattle.clash_check.proofs.place_ranges.count_passing.Given as goal
 
 abbrev pub invariant-loop-place : goal.invariant-loop-place

@@ -1,9 +1,9 @@
 use Rattle.std.proofs.Common.{◌≡◌, ◌∙◌, ◌+◌, ◌-◌, suc, ℕ, Bool, true, drop, get_or, sym, subst, arith}
-use Rattle.clash_check.proofs.AscentLaws.{leading_from}
 use Rattle.clash_check.proofs.PlaceLaws.{no_box}
-use Rattle.clash_check.specs.Ascents.{leading}
 use Rattle.clash_check.specs.PlaceRanges.{passes_place}
-use Rattle.protection_zones.specs.declared.stretches.ZoneBox.{ZoneBox}
+use Rattle.zone_stretches.proofs.ChainLaws.{leading_from}
+use Rattle.zone_stretches.specs.Ascents.{leading}
+use Rattle.zone_stretches.specs.declared.stretches.ZoneBox.{ZoneBox}
 use Rattle.clash_check.proofs.place_ranges.place_from.Goals as goal
 
 pub returns-then-passes_place-clause-left : goal.returns-then-passes_place-clause-left

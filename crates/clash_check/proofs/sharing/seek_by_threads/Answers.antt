@@ -6,14 +6,15 @@ use Rattle.std.specs.Prelude.{Option}
 use Rattle.clash_check.proofs.ChunkLaws.{first_of_chunks, room_of_few}
 use Rattle.clash_check.specs.Chunks.{chunk_count}
 use Rattle.clash_check.specs.FirstAnswer.{first_some}
-use Rattle.clash_check.specs.Meetings.{Case, Names}
-use Rattle.clash_check.specs.Times.{lists_in}
+use Rattle.clash_check.specs.Meetings.{Names}
+use Rattle.zone_stretches.specs.Cases.{Case}
+use Rattle.zone_stretches.specs.Times.{lists_in}
 use Rattle.clash_check.specs.ZonePairs.{first_of_pair}
 use Rattle.job_types.proofs.Crosses.{job_sync}
 use Rattle.order_clocks.specs.Tells.{is_before_in}
-use Rattle.protection_zones.specs.Stretches.{StretchView}
+use Rattle.zone_stretches.specs.Stretches.{StretchView}
 use Rattle.order_clocks.specs.contracts.clocks.Clocks as Clocks
-use Rattle.protection_zones.specs.contracts.stretches.Stretch as Stretch
+use Rattle.zone_stretches.specs.contracts.stretches.Stretch as Stretch
 use Rattle.sync_types.specs.contracts.runs.Entry as Entry
 use Rattle.sync_types.specs.contracts.runs.Run as Run
 use Rattle.sync_types.specs.contracts.Item as Item

@@ -1,7 +1,7 @@
 use Rattle.std.proofs.Common.{◌≡◌, ◌∙◌, List, true, sym, subst}
 use Rattle.order_clocks.specs.Tells.{is_before_in}
-use Rattle.clash_check.specs.Ascents.{do_ascend}
-use Rattle.protection_zones.specs.Stretches.{StretchView}
+use Rattle.zone_stretches.specs.Ascents.{do_ascend}
+use Rattle.zone_stretches.specs.Stretches.{StretchView}
 use Rattle.clash_check.proofs.zone_pairs.first_of_pair.Goals as goal
 
 pub first_of_zones-requires-clause-own_ascend : goal.first_of_zones-requires-clause-own_ascend

@@ -3,7 +3,7 @@ use Rattle.std.proofs.Common.{arith}
 use Rattle.explain.proofs.JudgeLemmas.{all_fit}
 use Rattle.product_run.proofs.JudgedRuns.{comes, comes_from_one, few, few_in_all, few_in_each, few_steps}
 use Rattle.product_run.proofs.Motions.{runs_in_order_are_maximal}
-use Rattle.protection_zones.proofs.ToldRuns.{told_of}
+use Rattle.zone_stretches.proofs.ToldRuns.{told_of}
 use Rattle.explain.proofs.judging.judge_job.Goals as goal
 
 pub clocks_of-requires-clause-few : goal.clocks_of-requires-clause-few

@@ -1,8 +1,8 @@
 use Rattle.std.proofs.Common.{◌∙◌, ℕ, length, arith}
 use Rattle.met_boxes.proofs.CountLaws.{counted_more, counted_all, sum_is}
 use Rattle.order_clocks.specs.Tells.{is_before_in}
-use Rattle.protection_zones.specs.Overlaps.{stretch_pairs}
-use Rattle.protection_zones.specs.Stretches.{StretchView}
+use Rattle.zone_stretches.specs.Overlaps.{stretch_pairs}
+use Rattle.zone_stretches.specs.Stretches.{StretchView}
 use Rattle.met_boxes.proofs.counts.count_against.Goals as goal
 
 pub loop-stretch-preserved : goal.loop-stretch-preserved

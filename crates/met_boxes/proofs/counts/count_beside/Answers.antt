@@ -2,7 +2,7 @@ use Rattle.std.proofs.Common.{◌∙◌, List, length, ap}
 use Rattle.met_boxes.proofs.NearLaws.{near_pairs}
 use Rattle.met_boxes.specs.Groups.{capped}
 use Rattle.order_clocks.specs.Tells.{is_before_in}
-use Rattle.protection_zones.specs.Overlaps.{Pair}
+use Rattle.zone_stretches.specs.Overlaps.{Pair}
 use Rattle.met_boxes.proofs.counts.count_beside.Goals as goal
 
 pub returns : goal.returns

@@ -1,11 +1,11 @@
 use Rattle.std.proofs.Common.{◌∙◌, List, ℕ, length, sym, subst, arith}
 use Rattle.std.specs.List.{flat_map}
 use Rattle.met_boxes.proofs.CountLaws.{counted_more, counted_all, sum_is}
-use Rattle.met_boxes.proofs.NearLaws.{passing_at}
-use Rattle.met_boxes.specs.Ascents.{PassFirst, passes}
 use Rattle.order_clocks.specs.Tells.{is_before_in}
-use Rattle.protection_zones.specs.Overlaps.{Pair, stretch_pairs}
-use Rattle.protection_zones.specs.Stretches.{StretchView}
+use Rattle.zone_stretches.proofs.ChainLaws.{passing_at}
+use Rattle.zone_stretches.specs.Ascents.{PassFirst, passes}
+use Rattle.zone_stretches.specs.Overlaps.{Pair, stretch_pairs}
+use Rattle.zone_stretches.specs.Stretches.{StretchView}
 use Rattle.met_boxes.proofs.counts.count_in_zones.Goals as goal
 
 pub count_beside-requires : goal.count_beside-requires

@@ -2,7 +2,7 @@ use Rattle.std.proofs.Common.{◌≡◌, length, take}
 use Rattle.std.specs.List.{flat_map, sum_by}
 use Rattle.met_boxes.specs.Groups.{capped}
 use Rattle.order_clocks.specs.Tells.{is_before_in}
-use Rattle.protection_zones.specs.Overlaps.{stretch_pairs}
+use Rattle.zone_stretches.specs.Overlaps.{stretch_pairs}
 use Rattle.met_boxes.proofs.counts.count_in_zones.Given as goal
 
 abbrev pub invariant-loop-stretch : goal.invariant-loop-stretch

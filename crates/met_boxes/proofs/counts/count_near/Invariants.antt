@@ -1,7 +1,7 @@
 use Rattle.std.proofs.Common.{◌≡◌, ◌+◌, drop}
 use Rattle.std.specs.List.{count_by}
 use Rattle.met_boxes.specs.Groups.{capped}
-use Rattle.protection_zones.specs.Overlaps.{share_place}
+use Rattle.zone_stretches.specs.Overlaps.{share_place}
 use Rattle.met_boxes.proofs.counts.count_near.Given as goal
 
 abbrev pub invariant-loop-later : goal.invariant-loop-later

@@ -2,8 +2,8 @@ use Rattle.std.proofs.Common.{ℕ, arith}
 use Rattle.std.specs.List.{count_by}
 use Rattle.met_boxes.proofs.CountLaws.{counted_at, counted_all}
 use Rattle.met_boxes.specs.CountSteps.{count_sharing}
-use Rattle.protection_zones.specs.Overlaps.{share_place}
-use Rattle.protection_zones.specs.declared.stretches.ZoneBox.{ZoneBox}
+use Rattle.zone_stretches.specs.Overlaps.{share_place}
+use Rattle.zone_stretches.specs.declared.stretches.ZoneBox.{ZoneBox}
 use Rattle.met_boxes.proofs.counts.count_sharing.Goals as goal
 
 pub loop-own-preserved : goal.loop-own-preserved

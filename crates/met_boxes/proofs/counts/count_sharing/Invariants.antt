@@ -1,7 +1,7 @@
 use Rattle.std.proofs.Common.{◌≡◌, take}
 use Rattle.std.specs.List.{count_by, sum_by}
 use Rattle.met_boxes.specs.Groups.{capped}
-use Rattle.protection_zones.specs.Overlaps.{share_place}
+use Rattle.zone_stretches.specs.Overlaps.{share_place}
 use Rattle.met_boxes.proofs.counts.count_sharing.Given as goal
 
 abbrev pub invariant-loop-own : goal.invariant-loop-own

@@ -2,8 +2,8 @@ use Rattle.std.proofs.Common.{◌≤◌, length}
 use Rattle.job_types.specs.Job.{JobView}
 use Rattle.job_types.specs.declared.job.ZoneLine.{ZoneLine}
 use Rattle.met_boxes.specs.KeptBoxes.{AreKept}
-use Rattle.protection_zones.specs.Stretches.{StretchView}
 use Rattle.sync_types.specs.Views.{RunView}
+use Rattle.zone_stretches.specs.Stretches.{StretchView}
 use Rattle.met_boxes.proofs.kept.have_places.Given as goal
 
 abbrev pub invariant-loop-place : goal.invariant-loop-place

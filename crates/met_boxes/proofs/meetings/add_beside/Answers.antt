@@ -1,7 +1,7 @@
 use Rattle.std.proofs.Common.{◌∙◌, ◌++◌, List, ap}
 use Rattle.order_clocks.specs.Tells.{is_before_in}
 use Rattle.met_boxes.proofs.NearLaws.{near_met}
-use Rattle.met_boxes.specs.MeetingSteps.{Case}
+use Rattle.zone_stretches.specs.Cases.{Case}
 use Rattle.told_places.specs.declared.place.Meeting.{Meeting}
 use Rattle.met_boxes.proofs.meetings.add_beside.Goals as goal
 

@@ -3,9 +3,10 @@ use Rattle.std.specs.List.{list_any}
 use Rattle.std.proofs.lemmas.List.{append-nil}
 use Rattle.order_clocks.specs.Tells.{is_before_in}
 use Rattle.met_boxes.proofs.KeptLaws.{none_met}
-use Rattle.met_boxes.specs.MeetingSteps.{Case, may_meet, met_by, place_of}
-use Rattle.protection_zones.specs.Stretches.{StretchView}
-use Rattle.protection_zones.specs.declared.stretches.ZoneBox.{ZoneBox}
+use Rattle.met_boxes.specs.MeetingSteps.{may_meet, met_by}
+use Rattle.zone_stretches.specs.Cases.{Case, place_of}
+use Rattle.zone_stretches.specs.Stretches.{StretchView}
+use Rattle.zone_stretches.specs.declared.stretches.ZoneBox.{ZoneBox}
 use Rattle.told_places.specs.declared.place.Meeting.{Meeting}
 use Rattle.met_boxes.proofs.meetings.add_by.Goals as goal
 

@@ -3,11 +3,12 @@ use Rattle.std.specs.List.{flat_map}
 use Rattle.order_clocks.specs.Tells.{is_before_in}
 use Rattle.met_boxes.specs.KeptBoxes.{AreKept}
 use Rattle.met_boxes.specs.MeetingSteps as model
+use Rattle.zone_stretches.specs.Cases.{place_of}
 use Rattle.met_boxes.proofs.meetings.add_each.Given as goal
 
 abbrev pub invariant-loop-place : goal.invariant-loop-place
 invariant-loop-place l = record {
-  met : l.list.items ++ flat_map (model.met_one (record { job = l.scene.job.now; run = l.scene.run.now; before = is_before_in l.scene.clocks.now.rows }) (model.place_of l.left.zone.now l.left.stretch.now l.own) l.right.zone.now l.right.stretch.now) (drop l.place l.laters)
-      ≡ l.initial.list.items ++ flat_map (model.met_one (record { job = l.scene.job.now; run = l.scene.run.now; before = is_before_in l.scene.clocks.now.rows }) (model.place_of l.left.zone.now l.left.stretch.now l.own) l.right.zone.now l.right.stretch.now) l.laters;
+  met : l.list.items ++ flat_map (model.met_one (record { job = l.scene.job.now; run = l.scene.run.now; before = is_before_in l.scene.clocks.now.rows }) (place_of l.left.zone.now l.left.stretch.now l.own) l.right.zone.now l.right.stretch.now) (drop l.place l.laters)
+      ≡ l.initial.list.items ++ flat_map (model.met_one (record { job = l.scene.job.now; run = l.scene.run.now; before = is_before_in l.scene.clocks.now.rows }) (place_of l.left.zone.now l.left.stretch.now l.own) l.right.zone.now l.right.stretch.now) l.laters;
   kept : AreKept l.scene.job.now l.scene.run.now l.right.zone.now l.right.stretch.now l.kept.items;
 }

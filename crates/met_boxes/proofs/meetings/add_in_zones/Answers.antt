@@ -1,8 +1,8 @@
 use Rattle.std.proofs.Common.{◌∙◌, sym, subst}
 use Rattle.order_clocks.specs.Tells.{is_before_in}
-use Rattle.protection_zones.specs.Stretches.{StretchView}
-use Rattle.met_boxes.proofs.NearLaws.{passing_at}
-use Rattle.met_boxes.specs.Ascents.{PassFirst, passes}
+use Rattle.zone_stretches.proofs.ChainLaws.{passing_at}
+use Rattle.zone_stretches.specs.Ascents.{PassFirst, passes}
+use Rattle.zone_stretches.specs.Stretches.{StretchView}
 use Rattle.met_boxes.proofs.meetings.add_in_zones.Goals as goal
 
 pub add_beside-requires-clause-passing : goal.add_beside-requires-clause-passing

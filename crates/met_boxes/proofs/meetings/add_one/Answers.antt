@@ -1,12 +1,13 @@
 use Rattle.std.proofs.Common.{◌≡◌, ◌∙◌, ◌++◌, [], List, sym, ap, subst}
 use Rattle.std.proofs.lemmas.List.{append-nil}
 use Rattle.order_clocks.specs.Tells.{is_before_in}
-use Rattle.protection_zones.specs.Overlaps.{BoxPlace}
-use Rattle.protection_zones.specs.Pieces.{piece_boxes}
+use Rattle.zone_stretches.specs.Overlaps.{BoxPlace}
+use Rattle.zone_stretches.specs.Pieces.{piece_boxes}
 use Rattle.swept_boxes.specs.declared.Box3.{Box3}
 use Rattle.told_places.specs.declared.place.Meeting.{Meeting}
 use Rattle.met_boxes.specs.KeptBoxes.{IsKeptAt}
-use Rattle.met_boxes.specs.MeetingSteps.{Case, met_one, place_of}
+use Rattle.met_boxes.specs.MeetingSteps.{met_one}
+use Rattle.zone_stretches.specs.Cases.{Case, place_of}
 use Rattle.met_boxes.proofs.KeptLaws.{met_on, met_off}
 use Rattle.met_boxes.proofs.meetings.add_one.Goals as goal
 

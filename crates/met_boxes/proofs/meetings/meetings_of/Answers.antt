@@ -1,14 +1,14 @@
 use Rattle.std.proofs.Common.{◌≡◌, ◌∙◌, All, List, sym, ap, subst, map, filter}
 use Rattle.order_clocks.specs.Tells.{is_before_in}
-use Rattle.protection_zones.specs.InCovers.{ArePairsInCover}
-use Rattle.protection_zones.specs.Overlaps.{Pair, compared_pairs, zone_times}
-use Rattle.protection_zones.specs.Pieces.{pair_meets}
+use Rattle.zone_stretches.specs.InCovers.{ArePairsInCover}
+use Rattle.zone_stretches.specs.Overlaps.{Pair, compared_pairs, zone_times}
+use Rattle.zone_stretches.specs.Pieces.{pair_meets}
 use Rattle.met_boxes.proofs.CoverLaws.{told_in_cover}
 use Rattle.met_boxes.proofs.KeptLaws.{rows_are}
 use Rattle.met_boxes.proofs.NearLaws.{timed_by}
 use Rattle.met_boxes.proofs.RowLaws.{compared_are, rows_timed}
 use Rattle.met_boxes.specs.Meetings.{meetings_of, told_pair}
-use Rattle.met_boxes.specs.MeetingSteps.{Case}
+use Rattle.zone_stretches.specs.Cases.{Case}
 use Rattle.met_boxes.specs.Rows.{IsRowTimed, pairs_in, rows_by_group}
 use Rattle.met_boxes.proofs.meetings.meetings_of.Goals as goal
 

@@ -3,7 +3,7 @@ use Rattle.std.proofs.lemmas.List.Elements.{All-get_or}
 use Rattle.order_clocks.specs.Tells.{is_before_in}
 use Rattle.met_boxes.proofs.AddLaws.{added_more, added_all}
 use Rattle.met_boxes.specs.MeetingSteps as model
-use Rattle.met_boxes.specs.MeetingSteps.{Case}
+use Rattle.zone_stretches.specs.Cases.{Case}
 use Rattle.met_boxes.specs.Rows.{IsRowTimed}
 use Rattle.met_boxes.proofs.meetings.met_in.Goals as goal
 

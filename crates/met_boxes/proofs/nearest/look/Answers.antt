@@ -1,8 +1,8 @@
 use Rattle.std.proofs.Common.{◌≡◌, List, subst}
 use Rattle.met_boxes.specs.KeptBoxes.{IsKeptAt}
-use Rattle.met_boxes.specs.MeetingSteps.{place_of}
-use Rattle.protection_zones.specs.Pieces.{piece_boxes}
 use Rattle.swept_boxes.specs.declared.Box3.{Box3}
+use Rattle.zone_stretches.specs.Cases.{place_of}
+use Rattle.zone_stretches.specs.Pieces.{piece_boxes}
 use Rattle.met_boxes.proofs.nearest.look.Goals as goal
 
 pub returns-then-are_kept-clause-near : goal.returns-then-are_kept-clause-near

@@ -2,7 +2,7 @@ use Rattle.std.proofs.Common.{◌++◌, take, arith}
 use Rattle.std.specs.List.{flat_map}
 use Rattle.order_clocks.specs.Tells.{is_before_in}
 use Rattle.met_boxes.proofs.SeenLaws.{seen_more, seen_none, seen_all}
-use Rattle.protection_zones.specs.Overlaps.{stretch_pairs}
+use Rattle.zone_stretches.specs.Overlaps.{stretch_pairs}
 use Rattle.met_boxes.specs.NearSteps.{AreNearestSoFar}
 use Rattle.met_boxes.proofs.nearest.look_against.Goals as goal
 

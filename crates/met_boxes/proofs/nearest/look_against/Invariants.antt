@@ -1,7 +1,7 @@
 use Rattle.std.proofs.Common.{List, ◌++◌, take}
 use Rattle.std.specs.List.{flat_map}
 use Rattle.order_clocks.specs.Tells.{is_before_in}
-use Rattle.protection_zones.specs.Overlaps.{Pair, stretch_pairs}
+use Rattle.zone_stretches.specs.Overlaps.{Pair, stretch_pairs}
 use Rattle.met_boxes.specs.NearSteps.{AreNearestSoFar}
 use Rattle.met_boxes.proofs.nearest.look_against.Given as goal
 

@@ -1,8 +1,8 @@
 use Rattle.std.proofs.Common.{◌≡◌, ◌∙◌, ◌||◌, not, Bool, true, false, cond, List, [], ◌∷◌, ◌++◌, sym, ap, subst}
 use Rattle.std.proofs.lemmas.List.{append-nil}
-use Rattle.protection_zones.specs.Overlaps.{Pair, are_compared, share_place}
-use Rattle.met_boxes.specs.MeetingSteps.{place_of}
 use Rattle.met_boxes.specs.NearSteps.{AreNearestSoFar, pair_where}
+use Rattle.zone_stretches.specs.Cases.{place_of}
+use Rattle.zone_stretches.specs.Overlaps.{Pair, are_compared, share_place}
 use Rattle.met_boxes.proofs.nearest.look_at.Goals as goal
 
 pub returns-in_ok-look_near-clause-near : goal.returns-in_ok-look_near-clause-near

@@ -1,6 +1,6 @@
 use Rattle.std.proofs.Common.{List, ◌++◌, subst}
 use Rattle.order_clocks.specs.Tells.{is_before_in}
-use Rattle.protection_zones.specs.Overlaps.{Pair}
+use Rattle.zone_stretches.specs.Overlaps.{Pair}
 use Rattle.met_boxes.proofs.NearLaws.{near_pairs}
 use Rattle.met_boxes.specs.NearSteps.{AreNearestSoFar}
 use Rattle.met_boxes.proofs.nearest.look_beside.Goals as goal

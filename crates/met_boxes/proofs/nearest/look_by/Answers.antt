@@ -1,15 +1,15 @@
 use Rattle.std.proofs.Common.{◌≡◌, ◌∙◌, ◌++◌, true, false, List, Option, sym, ap, subst}
 use Rattle.met_boxes.proofs.CoverLaws.{part_left}
 use Rattle.met_boxes.proofs.PassedLaws.{passed_again, passed_now, passed_stay}
-use Rattle.met_boxes.specs.MeetingSteps.{place_of}
+use Rattle.zone_stretches.specs.Cases.{place_of}
 use Rattle.met_boxes.specs.Nearest.{AreNearest}
 use Rattle.met_boxes.specs.NearSteps.{pairs_by}
 use Rattle.met_boxes.specs.PassedOwns.{reaches_no_further}
 use Rattle.path_geometry.specs.declared.motion.Motion.{Motion}
-use Rattle.protection_zones.specs.InCovers.{IsInCover}
-use Rattle.protection_zones.specs.Overlaps.{BoxPlace, Pair, share_channel}
-use Rattle.protection_zones.specs.Pieces.{motion_at}
-use Rattle.protection_zones.specs.Stretches.{StretchView}
+use Rattle.zone_stretches.specs.InCovers.{IsInCover}
+use Rattle.zone_stretches.specs.Overlaps.{BoxPlace, Pair, share_channel}
+use Rattle.zone_stretches.specs.Pieces.{motion_at}
+use Rattle.zone_stretches.specs.Stretches.{StretchView}
 use Rattle.met_boxes.proofs.nearest.look_by.Goals as goal
 
 pub returns-then-has-clause-near : goal.returns-then-has-clause-near

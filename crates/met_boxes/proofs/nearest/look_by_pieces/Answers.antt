@@ -4,11 +4,11 @@ use Rattle.std.specs.Prelude.{IfSome}
 use Rattle.std.proofs.lemmas.Int.{to_z-of_z}
 use mir.Val.{SFits}
 use Rattle.box_reach.specs.Lots.{IsGreatest, is_over, reaches}
-use Rattle.protection_zones.specs.Overlaps.{Pair}
-use Rattle.protection_zones.specs.Pieces.{piece_boxes}
+use Rattle.zone_stretches.specs.Overlaps.{Pair}
+use Rattle.zone_stretches.specs.Pieces.{piece_boxes}
 use Rattle.swept_boxes.specs.declared.Box3.{Box3}
 use Rattle.met_boxes.proofs.NearestLaws.{IsOne, kept_by_row, nearest_more, parts_are}
-use Rattle.met_boxes.specs.MeetingSteps.{place_of}
+use Rattle.zone_stretches.specs.Cases.{place_of}
 use Rattle.met_boxes.specs.Nearest.{AreNearest, groups_of, pair_reaches}
 use Rattle.met_boxes.specs.NearSteps.{is_as_near}
 use Rattle.met_boxes.specs.declared.nearest.Near.{Near}

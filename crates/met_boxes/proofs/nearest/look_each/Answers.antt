@@ -1,6 +1,6 @@
 use Rattle.std.proofs.Common.{◌++◌, take, arith}
 use Rattle.std.specs.List.{flat_map}
-use Rattle.met_boxes.specs.MeetingSteps.{place_of}
+use Rattle.zone_stretches.specs.Cases.{place_of}
 use Rattle.met_boxes.specs.NearSteps.{AreNearestSoFar, pair_where}
 use Rattle.met_boxes.proofs.SeenLaws.{seen_at, seen_none, seen_all}
 use Rattle.met_boxes.proofs.nearest.look_each.Goals as goal

@@ -1,9 +1,9 @@
 use Rattle.std.proofs.Common.{List, ◌++◌, take}
 use Rattle.std.specs.List.{flat_map}
 use Rattle.met_boxes.specs.KeptBoxes.{AreKept}
-use Rattle.met_boxes.specs.MeetingSteps.{place_of}
 use Rattle.met_boxes.specs.NearSteps.{AreNearestSoFar, pair_where}
-use Rattle.protection_zones.specs.Overlaps.{Pair}
+use Rattle.zone_stretches.specs.Cases.{place_of}
+use Rattle.zone_stretches.specs.Overlaps.{Pair}
 use Rattle.met_boxes.proofs.nearest.look_each.Given as goal
 
 abbrev pub invariant-loop-place : goal.invariant-loop-place

@@ -1,11 +1,11 @@
 use Rattle.std.proofs.Common.{◌≡◌, ◌∙◌, true, List, ap, subst}
 use Rattle.std.proofs.lemmas.List.Elements.{All-nil}
-use Rattle.met_boxes.specs.MeetingSteps.{place_of}
 use Rattle.met_boxes.specs.NearSteps.{AreNearestSoFar, pairs_by}
 use Rattle.met_boxes.specs.PassedOwns.{ArePassed, reaches_no_further}
 use Rattle.passed_boxes.specs.declared.passed.PassedBox.{PassedBox}
-use Rattle.protection_zones.specs.Stretches.{StretchView}
-use Rattle.protection_zones.specs.declared.stretches.ZoneBox.{ZoneBox}
+use Rattle.zone_stretches.specs.Cases.{place_of}
+use Rattle.zone_stretches.specs.Stretches.{StretchView}
+use Rattle.zone_stretches.specs.declared.stretches.ZoneBox.{ZoneBox}
 use Rattle.std.proofs.Common.{◌++◌, sym}
 use Rattle.std.specs.List.{flat_map}
 use Rattle.met_boxes.proofs.nearest.look_in_boxes.Goals as goal

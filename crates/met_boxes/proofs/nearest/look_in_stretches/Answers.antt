@@ -1,7 +1,7 @@
 use Rattle.std.proofs.Common.{◌≡◌, ◌∙◌, Bool, true, false, cond, List, [], ◌++◌, sym, subst}
 use Rattle.std.proofs.lemmas.List.{append-nil}
 use Rattle.order_clocks.specs.Tells.{is_before_in}
-use Rattle.protection_zones.specs.Overlaps.{Pair, box_pairs, may_overlap}
+use Rattle.zone_stretches.specs.Overlaps.{Pair, box_pairs, may_overlap}
 use Rattle.met_boxes.proofs.SeenLaws.{boxes_are}
 use Rattle.met_boxes.specs.NearSteps.{AreNearestSoFar}
 use Rattle.met_boxes.proofs.nearest.look_in_stretches.Goals as goal

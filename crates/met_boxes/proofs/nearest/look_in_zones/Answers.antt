@@ -2,12 +2,12 @@ use Rattle.std.proofs.Common.{◌∙◌, List, ◌++◌, take, sym, subst, arith
 use Rattle.std.specs.List.{flat_map}
 use Rattle.job_types.specs.declared.job.ZoneLine.{ZoneLine}
 use Rattle.order_clocks.specs.Tells.{is_before_in}
-use Rattle.met_boxes.proofs.NearLaws.{passing_at}
+use Rattle.zone_stretches.proofs.ChainLaws.{passing_at}
 use Rattle.met_boxes.proofs.SeenLaws.{seen_more, seen_none, seen_all}
-use Rattle.met_boxes.specs.Ascents.{PassFirst, passes}
+use Rattle.zone_stretches.specs.Ascents.{PassFirst, passes}
 use Rattle.met_boxes.specs.NearSteps.{AreNearestSoFar}
-use Rattle.protection_zones.specs.Overlaps.{Order, Pair, stretch_pairs}
-use Rattle.protection_zones.specs.Stretches.{StretchView}
+use Rattle.zone_stretches.specs.Overlaps.{Order, Pair, stretch_pairs}
+use Rattle.zone_stretches.specs.Stretches.{StretchView}
 use Rattle.met_boxes.proofs.nearest.look_in_zones.Goals as goal
 
 abbrev pairs_with : Order → ZoneLine → ZoneLine → List StretchView → StretchView → List Pair

@@ -1,11 +1,11 @@
 use Rattle.std.proofs.Common.{◌≡◌, ◌∙◌, false, List, [], ◌∷◌, sym, ap}
 use Rattle.met_boxes.proofs.CoverLaws.{part_left}
 use Rattle.met_boxes.proofs.NearestLaws.{passed_one}
-use Rattle.met_boxes.specs.MeetingSteps.{place_of}
 use Rattle.met_boxes.specs.NearSteps.{may_be_nearer}
 use Rattle.met_boxes.specs.declared.nearest.Near.{Near}
-use Rattle.protection_zones.specs.InCovers.{IsInCover}
-use Rattle.protection_zones.specs.Overlaps.{Pair}
+use Rattle.zone_stretches.specs.Cases.{place_of}
+use Rattle.zone_stretches.specs.InCovers.{IsInCover}
+use Rattle.zone_stretches.specs.Overlaps.{Pair}
 use Rattle.met_boxes.proofs.nearest.look_near.Goals as goal
 
 pub returns-in_ok-look-clause-near : goal.returns-in_ok-look-clause-near

@@ -1,10 +1,10 @@
 use Rattle.std.proofs.Common.{◌++◌, take, arith}
 use Rattle.std.specs.List.{flat_map}
-use Rattle.met_boxes.specs.MeetingSteps.{place_of}
+use Rattle.zone_stretches.specs.Cases.{place_of}
 use Rattle.met_boxes.specs.NearSteps.{pairs_by}
 use Rattle.met_boxes.specs.PassedOwns.{AreLookedAt}
 use Rattle.met_boxes.proofs.SeenLaws.{seen_at, seen_none, seen_all}
-use Rattle.protection_zones.specs.declared.stretches.ZoneBox.{ZoneBox}
+use Rattle.zone_stretches.specs.declared.stretches.ZoneBox.{ZoneBox}
 use Rattle.met_boxes.proofs.nearest.look_owns.Goals as goal
 
 pub loop-own-init : goal.loop-own-init

@@ -1,10 +1,10 @@
 use Rattle.std.proofs.Common.{List, ◌++◌, take}
 use Rattle.std.specs.List.{flat_map}
 use Rattle.met_boxes.specs.KeptBoxes.{AreKept}
-use Rattle.met_boxes.specs.MeetingSteps.{place_of}
 use Rattle.met_boxes.specs.NearSteps.{pairs_by}
 use Rattle.met_boxes.specs.PassedOwns.{AreLookedAt}
-use Rattle.protection_zones.specs.Overlaps.{Pair}
+use Rattle.zone_stretches.specs.Cases.{place_of}
+use Rattle.zone_stretches.specs.Overlaps.{Pair}
 use Rattle.met_boxes.proofs.nearest.look_owns.Given as goal
 
 abbrev pub invariant-loop-own : goal.invariant-loop-own

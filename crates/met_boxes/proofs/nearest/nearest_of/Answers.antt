@@ -5,8 +5,8 @@ use Rattle.met_boxes.proofs.RowLaws.{compared_are, rows_timed}
 use Rattle.met_boxes.specs.Nearest.{AreNearest}
 use Rattle.met_boxes.specs.Rows.{RowView, IsRowTimed, pairs_in, rows_by_group}
 use Rattle.order_clocks.specs.Tells.{is_before_in}
-use Rattle.protection_zones.specs.InCovers.{ArePairsInCover}
-use Rattle.protection_zones.specs.Overlaps.{Pair, compared_pairs, zone_times}
+use Rattle.zone_stretches.specs.InCovers.{ArePairsInCover}
+use Rattle.zone_stretches.specs.Overlaps.{Pair, compared_pairs, zone_times}
 use Rattle.met_boxes.proofs.nearest.nearest_of.Goals as goal
 
 pub nearest_in-requires-clause-timed : goal.nearest_in-requires-clause-timed

@@ -1,4 +1,4 @@
-use Rattle.std.proofs.Common.{◌≡◌, ◌∙◌, ℕ, List, [], ◌++◌, All, length, min, max, sym, ap, subst}
+use Rattle.std.proofs.Common.{◌≡◌, ◌∙◌, List, [], ◌++◌, All, length, min, max, sym, ap, subst}
 use Rattle.std.proofs.lemmas.Bool.{eqb-true}
 use Rattle.job_types.specs.Job.{JobView}
 use Rattle.met_boxes.proofs.PairLaws.{none_found, one_found, some_there, two_are, two_groups}
@@ -8,9 +8,9 @@ use Rattle.met_boxes.specs.Rows.{RowView, IsRowTimed, pairs_in, rows_for}
 use Rattle.met_boxes.specs.ZonePairs.{pairs_of_two}
 use Rattle.met_boxes.specs.declared.nearest.Near.{Near}
 use Rattle.order_clocks.specs.Tells.{is_before_in}
-use Rattle.protection_zones.specs.InCovers.{ArePairsInCover}
-use Rattle.protection_zones.specs.Overlaps.{Order, Pair, ZoneTime}
 use Rattle.sync_types.specs.Views.{RunView}
+use Rattle.zone_stretches.specs.InCovers.{ArePairsInCover}
+use Rattle.zone_stretches.specs.Overlaps.{Order, Pair, ZoneTime}
 use Rattle.met_boxes.proofs.pairs.comparison_of.Goals as goal
 
 -- the rows that are added to none

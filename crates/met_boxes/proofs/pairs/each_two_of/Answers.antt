@@ -5,8 +5,8 @@ use Rattle.met_boxes.specs.PairSteps.{AreReady}
 use Rattle.met_boxes.specs.Rows.{rows_for}
 use Rattle.met_boxes.specs.ZonePairs.{each_two_of, two_of}
 use Rattle.order_clocks.specs.Tells.{is_before_in}
-use Rattle.protection_zones.specs.Overlaps.{ZoneTime}
 use Rattle.zone_pairs.specs.declared.pairs.ZonePair.{ZonePair}
+use Rattle.zone_stretches.specs.Overlaps.{ZoneTime}
 use Rattle.met_boxes.proofs.pairs.each_two_of.Goals as goal
 
 pub loop-place-init : goal.loop-place-init

@@ -1,13 +1,13 @@
-use Rattle.std.proofs.Common.{◌≡◌, ◌∙◌, All, List, sym, ap, subst}
+use Rattle.std.proofs.Common.{◌∙◌, List, sym, ap, subst}
 use Rattle.met_boxes.proofs.CoverLaws.{told_in_cover}
 use Rattle.met_boxes.proofs.NearLaws.{timed_by}
 use Rattle.met_boxes.proofs.RowLaws.{compared_are, rows_timed}
 use Rattle.met_boxes.specs.PairSteps.{AreReady}
-use Rattle.met_boxes.specs.Rows.{IsRowTimed, rows_by_group}
+use Rattle.met_boxes.specs.Rows.{rows_by_group}
 use Rattle.met_boxes.specs.ZonePairs.{each_two_of, zone_pairs_of}
 use Rattle.order_clocks.specs.Tells.{is_before_in}
-use Rattle.protection_zones.specs.InCovers.{ArePairsInCover}
-use Rattle.protection_zones.specs.Overlaps.{Pair, ZoneTime, zone_times}
+use Rattle.zone_stretches.specs.InCovers.{ArePairsInCover}
+use Rattle.zone_stretches.specs.Overlaps.{Pair, ZoneTime, zone_times}
 use Rattle.met_boxes.proofs.pairs.zone_pairs_of.Goals as goal
 
 pub each_two_of-requires-clause-ready : goal.each_two_of-requires-clause-ready

@@ -1,6 +1,7 @@
 use Rattle.std.proofs.Common.{◌∙◌, sym, refl}
-use Rattle.met_boxes.proofs.TimeLaws.{no_times_left, no_times_on, past_lists, time_more, times_end}
-use Rattle.met_boxes.specs.Times.{lists_in}
+use Rattle.met_boxes.proofs.TimeLaws.{no_times_on, time_more, times_end}
+use Rattle.zone_stretches.proofs.TimeLaws.{no_times_left, past_lists}
+use Rattle.zone_stretches.specs.Times.{lists_in}
 use Rattle.met_boxes.proofs.rows.times_in.Goals as goal
 
 pub returns-in-None : goal.returns-in-None

@@ -1,5 +1,5 @@
 use Rattle.std.proofs.Common.{◌≡◌, ◌++◌}
-use Rattle.met_boxes.specs.Times.{lists_in, times_from}
+use Rattle.zone_stretches.specs.Times.{lists_in, times_from}
 use Rattle.met_boxes.proofs.rows.times_in.Given as goal
 
 abbrev pub invariant-loop-place : goal.invariant-loop-place

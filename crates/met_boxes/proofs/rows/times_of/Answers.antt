@@ -1,7 +1,7 @@
 use Rattle.std.proofs.Common.{◌∙◌, List, ap}
-use Rattle.protection_zones.specs.Overlaps.{zone_times}
-use Rattle.protection_zones.specs.Stretches.{StretchView}
-use Rattle.met_boxes.specs.Times.{times_from}
+use Rattle.zone_stretches.specs.Overlaps.{zone_times}
+use Rattle.zone_stretches.specs.Stretches.{StretchView}
+use Rattle.zone_stretches.specs.Times.{times_from}
 use Rattle.met_boxes.proofs.rows.times_of.Goals as goal
 
 pub returns : goal.returns

@@ -1,7 +1,7 @@
 use Rattle.std.proofs.Common.{◌++◌, ◌∷◌, [], List, map, take, ap, subst, ◌∙◌}
 use Rattle.protection_zones.specs.Logs.{IsLog}
 use Rattle.protection_zones.specs.Notes.{read_going}
-use Rattle.protection_zones.specs.Occurrences.{Occurrence}
+use Rattle.zone_stretches.specs.Occurrences.{Occurrence}
 use Rattle.protection_zones.proofs.LogLaws.{goings_all, goings_next, goings_none}
 use Rattle.protection_zones.proofs.logs.add_goings.Goals as goal
 use Rattle.sync_types.specs.declared.runs.Go.{Go}

@@ -2,7 +2,7 @@ use Rattle.std.proofs.Common.{◌++◌, List, map, take}
 use Rattle.job_types.specs.Job.{JobView}
 use Rattle.protection_zones.specs.Logs.{IsLog}
 use Rattle.protection_zones.specs.Notes.{read_going}
-use Rattle.protection_zones.specs.Occurrences.{Occurrence}
+use Rattle.zone_stretches.specs.Occurrences.{Occurrence}
 use Rattle.protection_zones.proofs.logs.add_goings.Given as goal
 
 abbrev pub invariant-loop-go : goal.invariant-loop-go

@@ -2,9 +2,9 @@ use Rattle.std.proofs.Common.{◌≡◌, ◌++◌, ◌∷◌, [], List, map, ap,
 use Rattle.std.proofs.lemmas.Result.{on_ok_weaker}
 use Rattle.protection_zones.specs.Logs.{IsLog}
 use Rattle.protection_zones.specs.Notes.{read_act, read_going, read_step, shown_note}
-use Rattle.protection_zones.specs.Occurrences.{Occurrence}
-use Rattle.protection_zones.proofs.logs.add_step.Goals as goal
 use Rattle.sync_types.specs.declared.runs.Go.{Go}
+use Rattle.protection_zones.proofs.logs.add_step.Goals as goal
+use Rattle.zone_stretches.specs.Occurrences.{Occurrence}
 
 pub add_goings-requires : goal.add_goings-requires
 add_goings-requires c = (c.requires.0, _, c.in_ok-add_event.ensures c.requires.0 c.requires.1 c.requires.2)

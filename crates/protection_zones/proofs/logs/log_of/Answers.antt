@@ -4,7 +4,7 @@ use Rattle.order_clocks.specs.Clocked.{moves_in}
 use Rattle.order_clocks.specs.Happenings.{happening_at}
 use Rattle.protection_zones.specs.Logs.{IsLog}
 use Rattle.protection_zones.specs.Notes.{entry_in, no_entry, read_step}
-use Rattle.protection_zones.specs.Occurrences.{Occurrence, occurrences_in}
+use Rattle.zone_stretches.specs.Occurrences.{Occurrence, occurrences_in}
 use Rattle.protection_zones.proofs.NoteLaws.{occurrences_first, occurrences_next, occurrences_past, step_told}
 use Rattle.protection_zones.proofs.logs.log_of.Goals as goal
 use Rattle.sync_types.specs.Views.{EntryView}

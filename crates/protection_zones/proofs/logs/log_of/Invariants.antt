@@ -4,8 +4,8 @@ use Rattle.order_clocks.specs.Happenings.{board_at}
 use Rattle.order_clocks.specs.StepReading.{IsAtStep}
 use Rattle.order_clocks.specs.Stops.{IsWhole}
 use Rattle.protection_zones.specs.Logs.{IsLog}
-use Rattle.protection_zones.specs.Occurrences.{Occurrence, occurrences_from, occurrences_of}
 use Rattle.sync_types.specs.Boards.{Board}
+use Rattle.zone_stretches.specs.Occurrences.{Occurrence, occurrences_from, occurrences_of}
 use Rattle.protection_zones.proofs.logs.log_of.Given as goal
 
 abbrev pub invariant-loop-place : goal.invariant-loop-place

@@ -2,7 +2,7 @@ use Rattle.std.proofs.Common.{◌≡◌, ◌<◌, ◌≤◌, ◌∙◌, sym, ari
 use Rattle.std.specs.Prelude.{unwrap_or}
 use Rattle.axis_sets.specs.Positions.{position_of}
 use Rattle.axis_sets.specs.declared.limits.TheConstants.{AXIS_LIMIT}
-use Rattle.protection_zones.specs.Rows.{positions_in}
+use Rattle.zone_stretches.specs.Rows.{positions_in}
 use Rattle.protection_zones.proofs.RowLaws.{all_axes, past_row, put_beyond}
 use Rattle.protection_zones.proofs.rows.put.Goals as goal
 

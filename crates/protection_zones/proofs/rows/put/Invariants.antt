@@ -1,6 +1,6 @@
 use Rattle.std.proofs.Common.{◌≡◌, ℕ, ◌<◌, ◌≤◌, length}
 use Rattle.axis_sets.specs.declared.limits.TheConstants.{AXIS_LIMIT}
-use Rattle.protection_zones.specs.Rows.{positions_in}
+use Rattle.zone_stretches.specs.Rows.{positions_in}
 use Rattle.protection_zones.proofs.rows.put.Given as goal
 use Rattle.std.specs.Prelude.{unwrap_or}
 use Rattle.axis_sets.specs.Positions.{position_of}

@@ -1,7 +1,7 @@
 use Rattle.std.proofs.Common.{◌≤◌, ◌∙◌, sym, arith}
 use Rattle.axis_sets.specs.declared.limits.TheConstants.{AXIS_LIMIT}
-use Rattle.protection_zones.specs.Rows.{positions_in}
-use Rattle.protection_zones.specs.ZoneBoxes.{stand_after}
+use Rattle.zone_stretches.specs.Rows.{positions_in}
+use Rattle.zone_stretches.specs.ZoneBoxes.{stand_after}
 use Rattle.protection_zones.proofs.RowLaws.{all_axes, after_beyond, past_row}
 use Rattle.protection_zones.proofs.rows.settle.Goals as goal
 

@@ -1,8 +1,8 @@
 use Rattle.std.proofs.Common.{◌≡◌, ℕ, ◌<◌, length}
 use Rattle.axis_sets.specs.declared.limits.TheConstants.{AXIS_LIMIT}
-use Rattle.protection_zones.specs.Rows.{positions_in}
+use Rattle.zone_stretches.specs.Rows.{positions_in}
 use Rattle.protection_zones.proofs.rows.settle.Given as goal
-use Rattle.protection_zones.specs.ZoneBoxes.{stand_after}
+use Rattle.zone_stretches.specs.ZoneBoxes.{stand_after}
 
 abbrev pub invariant-loop-index : goal.invariant-loop-index
 invariant-loop-index l = record {

@@ -1,7 +1,7 @@
 use Rattle.std.proofs.Common.{◌≤◌, ◌∙◌, sym, arith}
 use Rattle.axis_sets.specs.declared.limits.TheConstants.{AXIS_LIMIT}
 use Rattle.job_types.specs.Axes.{start_position}
-use Rattle.protection_zones.specs.Rows.{positions_in}
+use Rattle.zone_stretches.specs.Rows.{positions_in}
 use Rattle.protection_zones.proofs.RowLaws.{all_axes, past_row, no_start}
 use Rattle.protection_zones.proofs.rows.start_row.Goals as goal
 

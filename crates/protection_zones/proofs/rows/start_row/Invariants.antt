@@ -1,6 +1,6 @@
 use Rattle.std.proofs.Common.{◌≡◌, ℕ, ◌<◌, length}
 use Rattle.axis_sets.specs.declared.limits.TheConstants.{AXIS_LIMIT}
-use Rattle.protection_zones.specs.Rows.{positions_in}
+use Rattle.zone_stretches.specs.Rows.{positions_in}
 use Rattle.protection_zones.proofs.rows.start_row.Given as goal
 use Rattle.job_types.specs.Axes.{start_position}
 

@@ -4,8 +4,8 @@ use Rattle.std.specs.Global.{Global}
 use Rattle.protection_zones.specs.Beginnings.{shown_outset}
 use Rattle.protection_zones.specs.Exchanges.{count_in}
 use Rattle.protection_zones.specs.Notes.{shown_note}
-use Rattle.protection_zones.specs.Occurrences.{Occurrence}
-use Rattle.protection_zones.specs.Spans.{first_beginning}
+use Rattle.zone_stretches.specs.Occurrences.{Occurrence}
+use Rattle.zone_stretches.specs.Spans.{first_beginning}
 use Rattle.protection_zones.specs.declared.spans.Outset.{Outset}
 use Rattle.protection_zones.proofs.LogLaws.{outset_added, own_begun, own_count}
 use Rattle.protection_zones.proofs.spans.add_outset.Goals as goal

@@ -1,6 +1,6 @@
 use Rattle.std.proofs.Common.{◌≡◌, ℕ, ◌<◌, ◌≤◌, ◌∷◌, [], length}
 use Rattle.protection_zones.specs.Beginnings.{outsets_in}
-use Rattle.protection_zones.specs.Spans.{first_beginning}
+use Rattle.zone_stretches.specs.Spans.{first_beginning}
 use Rattle.protection_zones.proofs.spans.first_outsets.Given as goal
 
 abbrev pub invariant-loop-number : goal.invariant-loop-number

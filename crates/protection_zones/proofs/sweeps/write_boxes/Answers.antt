@@ -1,7 +1,7 @@
 use Rattle.std.proofs.Common.{◌≡◌, ◌∙◌, ◌++◌, List, append_assoc, ap, sym, arith, length}
 use Rattle.std.proofs.lemmas.Result.{on_ok_weaker}
-use Rattle.protection_zones.specs.Rows.{positions_in}
-use Rattle.protection_zones.specs.declared.stretches.ZoneBox.{ZoneBox}
+use Rattle.zone_stretches.specs.Rows.{positions_in}
+use Rattle.zone_stretches.specs.declared.stretches.ZoneBox.{ZoneBox}
 use Rattle.protection_zones.proofs.BoxLaws.{shown_boxes, sweep_step, sweep_end}
 use Rattle.protection_zones.proofs.sweeps.write_boxes.Goals as goal
 

@@ -1,6 +1,6 @@
 use Rattle.std.proofs.Common.{◌≡◌, ◌++◌, drop}
-use Rattle.protection_zones.specs.Rows.{positions_in}
 use Rattle.protection_zones.specs.Sweeps.{sweep, opened_at_first}
+use Rattle.zone_stretches.specs.Rows.{positions_in}
 use Rattle.protection_zones.proofs.sweeps.write_boxes.Given as goal
 
 abbrev pub invariant-loop-place : goal.invariant-loop-place

@@ -1,7 +1,7 @@
 use Rattle.std.proofs.Common.{◌∙◌, ◌+◌, ◌++◌, ◌∷◌, [], List, ap, sym, append_assoc, map, drop}
 use Rattle.std.proofs.lemmas.List.{map-append}
 use Rattle.protection_zones.specs.Exchanges.{HandOver, shown_exchange}
-use Rattle.protection_zones.specs.Tenures.{Tenure}
+use Rattle.zone_stretches.specs.Tenures.{Tenure}
 use Rattle.protection_zones.specs.Terms.{shown_term}
 use Rattle.protection_zones.proofs.TenureLaws.{hands_change, hands_stay, next_exchange}
 use Rattle.protection_zones.proofs.tenures.terms_of.Goals as goal

@@ -1,7 +1,7 @@
 use Rattle.std.proofs.Common.{◌≡◌, ◌++◌, ◌∷◌, [], drop, map}
 use Rattle.protection_zones.specs.Exchanges.{shown_exchange, tenures_then}
-use Rattle.protection_zones.specs.Tenures.{first_tenure}
 use Rattle.protection_zones.specs.Terms.{shown_term}
+use Rattle.zone_stretches.specs.Tenures.{first_tenure}
 use Rattle.protection_zones.proofs.tenures.terms_of.Given as goal
 
 abbrev pub invariant-loop-exchange : goal.invariant-loop-exchange

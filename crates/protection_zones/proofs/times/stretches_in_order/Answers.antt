@@ -5,8 +5,8 @@ use Rattle.std.proofs.lemmas.List.{map-append}
 use Rattle.job_types.specs.declared.job.ZoneLine.{ZoneLine}
 use Rattle.number_laws.proofs.Lists.{map-range_some, map-range_none}
 use Rattle.protection_zones.specs.Beginnings.{all_items}
-use Rattle.protection_zones.specs.Stretches.{StretchView, stretches_of_zone}
-use Rattle.protection_zones.specs.declared.stretches.Stretch.{Stretch}
+use Rattle.zone_stretches.specs.Stretches.{StretchView, stretches_of_zone}
+use Rattle.zone_stretches.specs.declared.stretches.Stretch.{Stretch}
 use Rattle.protection_zones.proofs.times.stretches_in_order.Goals as goal
 use Rattle.protection_zones.proofs.times.stretches_in_order.Goals.{in-Some+in_ok-stretches+in_ok-push, in_default}
 

@@ -2,8 +2,8 @@ use Rattle.std.proofs.Common.{◌≡◌, ◌==◌, List, map, find}
 use Rattle.std.specs.List.{filter_map, range_with_len}
 use Rattle.protection_zones.specs.Beginnings.{all_items}
 use Rattle.protection_zones.specs.Logs.{IsLog}
-use Rattle.protection_zones.specs.Occurrences.{Occurrence}
-use Rattle.protection_zones.specs.Stretches.{stretches_of_zone}
+use Rattle.zone_stretches.specs.Occurrences.{Occurrence}
+use Rattle.zone_stretches.specs.Stretches.{stretches_of_zone}
 use Rattle.protection_zones.proofs.times.stretches_in_order.Given as goal
 
 abbrev pub invariant-loop-index : goal.invariant-loop-index

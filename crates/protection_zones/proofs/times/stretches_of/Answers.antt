@@ -3,8 +3,8 @@ use Rattle.order_clocks.specs.Clocked.{moves_in}
 use Rattle.order_clocks.specs.Stops.{IsWhole}
 use Rattle.order_clocks.proofs.WholeLaws.{whole_of}
 use Rattle.protection_zones.specs.Logs.{IsLog}
-use Rattle.protection_zones.specs.Occurrences.{Occurrence, occurrences_of}
-use Rattle.protection_zones.specs.Stretches.{StretchView, StretchesView, all_stretches}
+use Rattle.zone_stretches.specs.Occurrences.{Occurrence, occurrences_of}
+use Rattle.zone_stretches.specs.Stretches.{StretchView, StretchesView, all_stretches}
 use Rattle.protection_zones.proofs.times.stretches_of.Goals as goal
 use Rattle.sync_types.specs.Boards.{first_board}
 

@@ -5,9 +5,9 @@ use Rattle.job_types.specs.Job.{JobView}
 use Rattle.job_types.specs.declared.job.ZoneLine.{ZoneLine}
 use Rattle.protection_zones.specs.Beginnings.{all_items}
 use Rattle.protection_zones.specs.Exchanges.{shown_exchange, tenures_then}
-use Rattle.protection_zones.specs.Spans.{spans_of}
-use Rattle.protection_zones.specs.Stretches.{stretches_in_tenure, stretches_of_zone}
-use Rattle.protection_zones.specs.Tenures.{Tenure, first_tenure, tenures_of}
+use Rattle.zone_stretches.specs.Spans.{spans_of}
+use Rattle.zone_stretches.specs.Stretches.{stretches_in_tenure, stretches_of_zone}
+use Rattle.zone_stretches.specs.Tenures.{Tenure, first_tenure, tenures_of}
 use Rattle.protection_zones.specs.Terms.{shown_term}
 use Rattle.protection_zones.specs.declared.exchanges.Exchange.{Exchange}
 use Rattle.protection_zones.specs.declared.tenures.Term.{Term}

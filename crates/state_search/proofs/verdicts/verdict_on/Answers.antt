@@ -1,8 +1,8 @@
 -- The parts of a verdict get what they need of the run in order.
 use Rattle.product_run.proofs.JudgedRuns.{comes, comes_from_one, few_in_all, few_in_each}
 use Rattle.product_run.proofs.Motions.{runs_in_order_are_maximal}
-use Rattle.protection_zones.proofs.ToldRuns.{told_of}
 use Rattle.state_search.proofs.JudgeLemmas.{all_fit}
+use Rattle.zone_stretches.proofs.ToldRuns.{told_of}
 use Rattle.state_search.proofs.verdicts.verdict_on.Goals as goal
 
 pub clocks_of-requires-clause-whole : goal.clocks_of-requires-clause-whole

@@ -2,8 +2,8 @@
 use Rattle.std.proofs.Common.{arith}
 use Rattle.channel_machine.specs.StartStates.{start_of}
 use Rattle.product_run.proofs.JudgedRuns.{comes, comes_from_one, few, few_in_all, few_in_each}
-use Rattle.protection_zones.proofs.ToldRuns.{told_of}
 use Rattle.turnmill.proofs.JudgeLemmas.{all_fit, judged_by}
+use Rattle.zone_stretches.proofs.ToldRuns.{told_of}
 use Rattle.turnmill.proofs.judging.judge_run.Goals as goal
 
 pub clocks_of-requires-clause-few : goal.clocks_of-requires-clause-few

@@ -1,6 +1,6 @@
 use Rattle.std.proofs.Common.{All}
 use Rattle.protection_zones.specs.Beginnings.{all_items}
-use Rattle.protection_zones.specs.ZoneBoxes.{IsFit}
+use Rattle.zone_stretches.specs.ZoneBoxes.{IsFit}
 use Rattle.protection_zones.proofs.NoteLaws.{all_none}
 use Rattle.protection_zones.proofs.SpanLaws.{items_hold}
 use Rattle.protection_zones.proofs.zone_time.Scene.held_stretch.Goals as goal

@@ -1,10 +1,10 @@
 use Rattle.std.proofs.Common.{◌≡◌, List, map, take}
 use Rattle.std.specs.List.{flat_map}
 use Rattle.protection_zones.specs.Beginnings.{AreOutsets, all_items}
-use Rattle.protection_zones.specs.Occurrences.{Occurrence}
-use Rattle.protection_zones.specs.Spans.{spans_of}
-use Rattle.protection_zones.specs.Stretches.{stretches_in_tenure}
 use Rattle.protection_zones.specs.Terms.{shown_term}
+use Rattle.zone_stretches.specs.Occurrences.{Occurrence}
+use Rattle.zone_stretches.specs.Spans.{spans_of}
+use Rattle.zone_stretches.specs.Stretches.{stretches_in_tenure}
 use Rattle.protection_zones.proofs.zone_time.Scene.stretches.Given as goal
 
 abbrev pub invariant-loop-term : goal.invariant-loop-term

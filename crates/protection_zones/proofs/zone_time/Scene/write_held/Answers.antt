@@ -1,8 +1,8 @@
 use Rattle.std.proofs.Common.{◌≡◌, ◌∙◌, ◌++◌, ℕ, List, append_assoc, ap, sym, length, map}
 use Rattle.std.proofs.lemmas.List.{append-nil, length-map}
 use Rattle.protection_zones.specs.Beginnings.{all_items, shown_outset, spans_along}
-use Rattle.protection_zones.specs.Spans.{Span}
-use Rattle.protection_zones.specs.Stretches.{StretchView, stretch_of_span}
+use Rattle.zone_stretches.specs.Spans.{Span}
+use Rattle.zone_stretches.specs.Stretches.{StretchView, stretch_of_span}
 use Rattle.protection_zones.proofs.SpanLaws.{no_span, one_span, spans_in_tenure, spans_left, spans_size}
 use Rattle.protection_zones.proofs.zone_time.Scene.write_held.Goals as goal
 

@@ -1,6 +1,6 @@
 use Rattle.std.proofs.Common.{◌≡◌, ◌++◌, map}
 use Rattle.protection_zones.specs.Beginnings.{all_items, shown_outset, spans_along}
-use Rattle.protection_zones.specs.Stretches.{stretch_of_span}
+use Rattle.zone_stretches.specs.Stretches.{stretch_of_span}
 use Rattle.protection_zones.proofs.SpanLaws.{spans_left}
 use Rattle.protection_zones.proofs.zone_time.Scene.write_held.Given as goal
 

@@ -1,8 +1,8 @@
 use Rattle.std.proofs.Common.{◌∙◌, ◌++◌, List, ap, map}
 use Rattle.std.proofs.lemmas.Result.{on_ok_weaker}
 use Rattle.protection_zones.specs.Beginnings.{all_items}
-use Rattle.protection_zones.specs.Spans.{Span}
-use Rattle.protection_zones.specs.Stretches.{spans_between, stretch_of_span}
+use Rattle.zone_stretches.specs.Spans.{Span}
+use Rattle.zone_stretches.specs.Stretches.{spans_between, stretch_of_span}
 use Rattle.protection_zones.proofs.SpanLaws.{own_spans}
 use Rattle.protection_zones.proofs.zone_time.Scene.write_term.Goals as goal
 

@@ -1,5 +1,0 @@
-use Rattle.protection_zones.proofs.CoverLaws.{boxes_have_covers}
-use Rattle.protection_zones.proofs.laws.boxes_have_covers.Goals as goal
-
-pub returns : goal.returns
-returns c job b run = boxes_have_covers job b run

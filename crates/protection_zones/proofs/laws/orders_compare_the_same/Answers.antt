@@ -1,5 +1,0 @@
-use Rattle.protection_zones.proofs.OneOrder.{orders_compare_the_same}
-use Rattle.protection_zones.proofs.laws.orders_compare_the_same.Goals as goal
-
-pub returns : goal.returns
-returns c before other job b run = orders_compare_the_same before other job b run

@@ -1,5 +1,0 @@
-use Rattle.protection_zones.proofs.AscentLaws.{stretches_ascend}
-use Rattle.protection_zones.proofs.laws.stretches_ascend.Goals as goal
-
-pub returns : goal.returns
-returns c job start run = stretches_ascend job start run

@@ -1,7 +1,0 @@
--- The boxes of the pieces so far.
-use Rattle.std.proofs.Common.{◌≡◌, map}
-use Rattle.protection_zones.specs.Pieces.{piece_box}
-use Rattle.protection_zones.proofs.pieces.boxes_of_pieces.Given as goal
-
-abbrev pub invariant-loop-piece : goal.invariant-loop-piece
-invariant-loop-piece l = l.boxes.items ≡ map (λ piece. piece_box l.job.margin l.zone.sides piece l.cover) l.yielded

@@ -1,0 +1,15 @@
+pub mod Occurrences
+pub mod Spans
+pub mod Tenures
+pub mod ZoneBoxes
+pub mod Stretches
+pub mod Told
+pub mod Overlaps
+pub mod Cases
+pub mod Times
+pub mod Ascents
+pub mod Rows
+pub mod Pieces
+pub mod SoundStretches
+pub mod InCovers
+pub mod ActiveParts
