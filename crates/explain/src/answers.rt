@@ -17,6 +17,7 @@ ghost use Rattle.sync_types.specs.Turns.{AreEntries};
 
 use crate::data::data_of;
 use crate::explaining::explain;
+use crate::headlines::{say_headline, say_yes_line};
 use crate::judged::Judged;
 use crate::judging::{Judgement, judge_job, met_in};
 use crate::progress::{Stage, Watch};
@@ -24,14 +25,17 @@ use crate::words::Form;
 use channel_machine::start_state;
 use exit_statuses::Status;
 use fault_codes::Refusal;
+use growing_text::Text;
 use input_lines::Lines;
 use job_types::Job;
+use met_boxes::zone_pairs_of;
 use out_of_memory::NoMemory;
 use ready_copies::left_out_text;
 use refused_lines::{RefusedLine, explain_refusals, refused_lines};
 use run_drawing::draw;
 use run_pictures::picture_of;
 use std::alloc::Global;
+use sync_types::Verdict;
 use tape_job::{JobFault, line_refusals, read_job};
 use told_data::refusal_data;
 use told_places::Meeting;
@@ -43,6 +47,30 @@ pub(crate) struct Answer {
     pub(crate) text: Vec<u8>,
     /// The status: that of `turnmill check` on the same input.
     pub(crate) status: Status,
+}
+
+/// The first line of a text on a judged job: the verdict.
+fn title_of(alloc: Global, judged: &Judged) -> Result<Vec<u8>, NoMemory>
+    requires sound { IsSoundJob judged.now.job.now }
+    requires whole { IsTold judged.now.job.now judged.now.run.now judged.now.stretches.now judged.now.clocks.now }
+    ensures { IfOk result (λ title. title.items ≡ first_line judged.now.verdict.now
+        (zones_told judged.now.job.now judged.now.run.now judged.now.clocks.now judged.now.stretches.now)) }
+{
+    let mut text = Text::new(alloc);
+    match judged.verdict {
+        Verdict::Yes => {
+            let zones = zone_pairs_of(
+                alloc,
+                judged.job,
+                judged.run,
+                judged.stretches,
+                judged.clocks,
+            )?;
+            say_yes_line(&mut text, zones.as_slice());
+        }
+        other => say_headline(&mut text, other),
+    }
+    text.finish()
 }
 
 /// The drawing of a judged job.
@@ -59,7 +87,14 @@ fn drawing_of(alloc: Global, judged: &Judged) -> Result<Vec<u8>, NoMemory>
         judged.stretches,
         judged.met.first(),
     )?;
-    draw(alloc, &picture)
+    let title = title_of(alloc, judged)?;
+    draw(
+        alloc,
+        &judged.told(),
+        title.as_slice(),
+        judged.verdict,
+        &picture,
+    )
 }
 
 /// The text on a judged job.

@@ -71,10 +71,6 @@ look_text Free = codes "free"
 look_text First = codes "red"
 look_text Second = codes "red"
 
--- the number of a line, with the end of the text
-unfoldable pub line_text : ℕ → List ℕ
-line_text line = codes "line " ++ (decimal line ++ codes "</text>\n")
-
 -- a point in the colour of a channel begins
 unfoldable pub class_text : ℕ → List ℕ
 class_text channel = codes "<circle class=\"s d" ++ (decimal channel ++ codes "\"")

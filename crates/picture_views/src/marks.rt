@@ -128,16 +128,6 @@ pub(crate) fn put_look(text: &mut Text, look: Look)
     }
 }
 
-/// Writes the number of a line, and ends the text.
-#[tactic(auto, unfolding(crate::specs::Marks::line_text))]
-pub(crate) fn put_line_number(text: &mut Text, line: u32)
-    ensures { text.new ≡ text.old ++ model.line_text line }
-{
-    text.say("line ");
-    text.number(u64::from(line));
-    text.say("</text>\n");
-}
-
 /// Begins a point in the colour of a channel.
 #[tactic(auto, unfolding(crate::specs::Marks::class_text))]
 pub(crate) fn put_point_class(text: &mut Text, channel: u8)

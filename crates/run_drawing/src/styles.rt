@@ -10,10 +10,11 @@ pub(crate) const STYLES: &str = "<style>
 .b{fill:currentColor;fill-opacity:.05;stroke:currentColor;stroke-opacity:.35;stroke-width:.05em}
 .free{fill:url(#hatch);stroke:#666;stroke-width:.05em}
 .red{fill:#d62728;fill-opacity:.25;stroke:#d62728;stroke-width:.15em}
-.t{fill:none;stroke:currentColor;stroke-width:.1em}
+.t{fill:none;stroke:currentColor;stroke-width:.1em;marker-end:url(#arrow)}
 .s{fill:currentColor}
+.r{stroke-dasharray:.5em .3em}
 .axis{stroke:#888;stroke-width:.05em}
-.scale{stroke:#333;stroke-width:.15em}
+.grid{stroke:#e4e4e4;stroke-width:.04em}
 .lane{stroke:#888;stroke-width:.05em}
 .join{stroke:#d62728;stroke-width:.1em}
 .act{fill:#333}
@@ -21,11 +22,17 @@ pub(crate) const STYLES: &str = "<style>
 .go{fill:#fff;stroke:#2ca02c;stroke-width:.15em}
 text{font-family:sans-serif;fill:#333}
 .mid{text-anchor:middle}
+.end{text-anchor:end}
+.tick{font-size:.7em}
+.title{font-size:1.1em;font-weight:bold}
+.note{font-size:.8em}
+.zone{font-size:.8em;paint-order:stroke;stroke:#fff;stroke-width:.2em}
 .name{text-anchor:middle;fill:currentColor}
 .step{font-size:.8em}
 .named{fill:#b00000;font-weight:bold;paint-order:stroke;stroke:#fff;stroke-width:.15em}
 </style>
-<defs><pattern id=\"hatch\" patternUnits=\"userSpaceOnUse\" width=\"1em\" height=\"1em\"><line class=\"axis\" x1=\"0\" y1=\"1em\" x2=\"1em\" y2=\"0\"/></pattern></defs>
+<defs><pattern id=\"hatch\" patternUnits=\"userSpaceOnUse\" width=\"1em\" height=\"1em\"><line class=\"axis\" x1=\"0\" y1=\"1em\" x2=\"1em\" y2=\"0\"/></pattern>
+<marker id=\"arrow\" viewBox=\"0 0 10 10\" refX=\"10\" refY=\"5\" markerWidth=\"6\" markerHeight=\"6\" orient=\"auto\"><path d=\"M 0 1 L 10 5 L 0 9 z\" fill=\"#333\"/></marker></defs>
 ";
 
 /// What the points of the lanes are.

@@ -1,7 +1,7 @@
 -- Meaning. The boxes of all zones, by the pieces of their motions, each with the look of its holder.
-use Rattle.std.specs.Prelude.{ℕ, List, [], map, flat_map, length, slice_get, slice_index_or, Option, None, Some}
+use Rattle.std.specs.Prelude.{ℕ, false, List, [], map, flat_map, length, slice_get, slice_index_or, Option, None, Some}
 use Rattle.std.specs.List.{range_with_len}
-use Rattle.std.specs.Option.{option_map_or}
+use Rattle.std.specs.Option.{is_some, option_map_or}
 use Rattle.job_types.specs.Job.{JobView}
 use Rattle.job_types.specs.Zones.{zones_in_order}
 use Rattle.job_types.specs.declared.job.ZoneLine.{ZoneLine}
@@ -23,13 +23,23 @@ look_by (Some channel) = Held channel
 abbrev pub look_of : PlaceName → Look
 look_of name = look_by name.channel
 
--- a box with a look, and no line
-abbrev pub tile_of : Look → Box3 → Tile
-tile_of look space = record { space = space; look = look; label = 0 }
+-- a box of a stretch: it has its own line, and the look of its holder
+abbrev pub tile_of : StretchView → ZoneBox → Tile
+tile_of stretch own = record {
+  space = own.cover;
+  look = look_of stretch.name;
+  name = record stretch.name { line = own.line };
+  moves = is_some own.motion;
+  is_labelled = false;
+}
+
+-- a piece of it
+abbrev pub in_piece : Tile → Box3 → Tile
+in_piece tile piece = record tile { space = piece }
 
 -- a box of a stretch of a zone by its pieces
 abbrev pub tiles_of_box : JobView → RunView → ZoneLine → StretchView → ZoneBox → List Tile
-tiles_of_box job run zone stretch own = map (tile_of (look_of stretch.name)) (piece_boxes job run (record { zone = zone; stretch = stretch; box = own }))
+tiles_of_box job run zone stretch own = map (in_piece (tile_of stretch own)) (piece_boxes job run (record { zone = zone; stretch = stretch; box = own }))
 
 -- all boxes of a stretch
 abbrev pub tiles_of_stretch : JobView → RunView → ZoneLine → StretchView → List Tile

@@ -1,6 +1,6 @@
 -- Meaning. The two boxes that the verdict names, in red.
-use Rattle.std.specs.Prelude.{ℕ, ◌==◌, List, [], ◌∷◌, ◌++◌, find, Option, None, Some}
-use Rattle.std.specs.Option.{option_map_or}
+use Rattle.std.specs.Prelude.{◌==◌, true, false, List, [], ◌∷◌, ◌++◌, find, Option, None, Some}
+use Rattle.std.specs.Option.{is_some, option_map_or}
 use Rattle.job_types.specs.Job.{JobView}
 use Rattle.protection_zones.specs.Pieces.{piece_boxes}
 use Rattle.protection_zones.specs.Stretches.{StretchView}
@@ -8,15 +8,20 @@ use Rattle.protection_zones.specs.declared.stretches.ZoneBox.{ZoneBox}
 use Rattle.picture_views.specs.declared.shapes.Look.{Look}
 use Rattle.picture_views.specs.declared.shapes.Look.TheVariants.{First, Second}
 use Rattle.picture_views.specs.declared.shapes.Tile.{Tile}
+use Rattle.run_pictures.specs.Boxes.{in_piece}
 use Rattle.swept_boxes.specs.declared.Box3.{Box3}
 use Rattle.sync_types.specs.Views.{RunView}
 use Rattle.told_places.specs.declared.place.Meeting.{Meeting}
 use Rattle.told_places.specs.declared.place.Place.{Place}
 
--- boxes of one look, of which the first has this line
-abbrev pub labelled : Look → ℕ → List Box3 → List Tile
-labelled look label [] = []
-labelled look label (piece ∷ pieces) = record { space = piece; look = look; label = label } ∷ labelled look 0 pieces
+-- a box in pieces, of which the first alone is labelled as the box is
+abbrev pub labelled : Tile → List Box3 → List Tile
+labelled tile [] = []
+labelled tile (piece ∷ pieces) = in_piece tile piece ∷ labelled (record tile { is_labelled = false }) pieces
+
+-- the box of a place, in this look and with its name
+abbrev pub named_tile : Look → Place → Tile
+named_tile look place = record { space = place.cover; look = look; name = place.name; moves = is_some place.motion; is_labelled = true }
 
 -- the stretch and the box of a place; of a stretch no boxes are asked for
 abbrev pub stretch_of : Place → StretchView
@@ -25,10 +30,10 @@ stretch_of place = record { name = place.name; first = place.first; last = place
 abbrev pub box_of : Place → ZoneBox
 box_of place = record { line = place.name.line; motion = place.motion; from = place.from; to = place.to; cover = place.cover }
 
--- a named box by its pieces, the first with its line
+-- a named box by its pieces, the first with its name
 unfoldable pub tiles_of_place : JobView → RunView → Look → Place → List Tile
 tiles_of_place job run look place =
-    option_map_or (λ zone. labelled look place.name.line (piece_boxes job run (record { zone = zone; stretch = stretch_of place; box = box_of place })))
+    option_map_or (λ zone. labelled (named_tile look place) (piece_boxes job run (record { zone = zone; stretch = stretch_of place; box = box_of place })))
     (find (λ line. line.zone == place.name.zone) job.zones) []
 
 -- both of them

@@ -1,5 +1,5 @@
 -- Meaning. The ways of the points that zones travel with.
-use Rattle.std.specs.Prelude.{ℕ, ℤ, pos, ◌+ℤ◌, ◌-ℤ◌, ◌==◌, Bool, List, [], ◌∷◌, find, flat_map, length, slice_get, slice_index_or, int_div, Option, None}
+use Rattle.std.specs.Prelude.{ℕ, ℤ, pos, ◌+ℤ◌, ◌-ℤ◌, ◌==◌, Bool, true, false, List, [], ◌∷◌, find, flat_map, length, slice_get, slice_index_or, int_div, Option, None}
 use Rattle.std.specs.Int.{w64, saturate_signed}
 use Rattle.std.specs.List.{range_with_len}
 use Rattle.std.specs.Option.{option_and_then, option_map, option_map_or, unwrap_or}
@@ -50,10 +50,19 @@ turn_with zone (Line ends) = None
 turn_with zone (Rapid ends) = None
 turn_with zone (Kind.Arc arc) = turn_of zone arc
 
+-- each axis goes by itself
+abbrev pub is_rapid : Motion → Bool
+is_rapid (Line ends) = false
+is_rapid (Rapid ends) = true
+is_rapid (Kind.Arc arc) = false
+
 -- the way of a zone during a box
 unfoldable pub track_of : JobView → ZoneLine → ℕ → ZoneBox → Motion → Track
 track_of job zone channel own motion = record {
   channel = channel;
+  zone = zone.zone;
+  line = own.line;
+  is_rapid = is_rapid motion;
   from = (ends_along job zone own motion 0).0 ∷ (ends_along job zone own motion 1).0 ∷ (ends_along job zone own motion 2).0 ∷ [];
   to = (ends_along job zone own motion 0).1 ∷ (ends_along job zone own motion 1).1 ∷ (ends_along job zone own motion 2).1 ∷ [];
   turn = turn_with zone motion;

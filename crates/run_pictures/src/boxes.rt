@@ -22,29 +22,42 @@ pub(crate) fn look_of(name: &PlaceName) -> Look
     }
 }
 
-/// A box with a look, and no line.
-fn tile_of(space: &Box3, look: Look) -> Tile
-    ensures { result ≡ model.tile_of look space.now }
+/// A box of a stretch, with its own line and the look of its holder.
+fn tile_of(stretch: &Stretch, own: &ZoneBox) -> Tile
+    ensures { result ≡ model.tile_of stretch.now own.now }
 {
+    let mut name = stretch.name;
+    name.line = own.line;
     Tile {
-        space: *space,
-        look,
-        label: 0,
+        space: own.cover,
+        look: look_of(&stretch.name),
+        name,
+        moves: own.motion.is_some(),
+        is_labelled: false,
     }
 }
 
-/// Adds boxes of one look, while there is room.
+/// A piece of a box.
+pub(crate) fn in_piece(tile: &Tile, piece: &Box3) -> Tile
+    ensures { result ≡ model.in_piece tile.now piece.now }
+{
+    let mut part = *tile;
+    part.space = *piece;
+    part
+}
+
+/// Adds a box by these pieces, while there is room.
 fn add_pieces(
     tiles: &mut Vec<Tile>,
     limit: usize,
     pieces: &[Box3],
-    look: Look,
+    tile: &Tile,
 ) -> Result<(), NoMemory>
     ensures { IfOk result (λ _. take limit tiles.new.items
-        ≡ take limit (tiles.old.items ++ map (model.tile_of look) pieces.now)) }
+        ≡ take limit (tiles.old.items ++ map (model.in_piece tile.now) pieces.now)) }
 {
     for piece in pieces {
-        keep(tiles, limit, tile_of(piece, look))?;
+        keep(tiles, limit, in_piece(tile, piece))?;
     }
     Ok(())
 }
@@ -65,7 +78,7 @@ fn add_box(
         ≡ take limit (tiles.old.items ++ model.tiles_of_box job.now run.now zone.now stretch.now own.now)) }
 {
     let pieces = boxes_by_pieces(job, run, zone, stretch, own);
-    add_pieces(tiles, limit, pieces.as_slice(), look_of(&stretch.name))
+    add_pieces(tiles, limit, pieces.as_slice(), &tile_of(stretch, own))
 }
 
 /// Adds the boxes of a stretch.

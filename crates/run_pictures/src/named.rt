@@ -4,6 +4,7 @@ ghost use Rattle.job_lines.specs.declared.limits.TheConstants.{DEPTH_LIMIT};
 ghost use Rattle.protection_zones.specs.ZoneBoxes.{IsFit};
 ghost use Rattle.run_pictures.specs.Named as model;
 
+use crate::boxes::in_piece;
 use axis_sets::ZoneId;
 use job_types::{Job, ZoneLine};
 use out_of_memory::NoMemory;
@@ -14,20 +15,29 @@ use swept_boxes::Box3;
 use sync_types::Run;
 use told_places::{Meeting, Place};
 
-/// Adds the pieces of a box; the first of them has its line.
-fn add_pieces(tiles: &mut Vec<Tile>, pieces: &[Box3], look: Look, line: u32) -> Result<(), NoMemory>
-    ensures { IfOk result (λ _. tiles.new.items ≡ tiles.old.items ++ model.labelled look line pieces.now) }
+/// Adds a box by these pieces, of which the first alone is labelled as the box is.
+fn add_pieces(tiles: &mut Vec<Tile>, pieces: &[Box3], tile: Tile) -> Result<(), NoMemory>
+    ensures { IfOk result (λ _. tiles.new.items ≡ tiles.old.items ++ model.labelled tile pieces.now) }
 {
-    let mut label = line;
+    let mut next = tile;
     for piece in pieces {
-        tiles.push(Tile {
-            space: *piece,
-            look,
-            label,
-        })?;
-        label = 0;
+        tiles.push(in_piece(&next, piece))?;
+        next.is_labelled = false;
     }
     Ok(())
+}
+
+/// The box of a place, in this look and with its name.
+fn named_tile(place: &Place, look: Look) -> Tile
+    ensures { result ≡ model.named_tile look place.now }
+{
+    Tile {
+        space: place.cover,
+        look,
+        name: place.name,
+        moves: place.motion.is_some(),
+        is_labelled: true,
+    }
 }
 
 /// The zone of this number in a job.
@@ -82,7 +92,7 @@ fn add_place(
         Some(zone) => {
             let stretch = stretch_of(alloc, place);
             let pieces = boxes_by_pieces(job, run, zone, &stretch, &box_of(place));
-            add_pieces(tiles, pieces.as_slice(), look, place.name.line)
+            add_pieces(tiles, pieces.as_slice(), named_tile(place, look))
         }
         None => Ok(()),
     }

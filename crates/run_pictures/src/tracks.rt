@@ -77,6 +77,16 @@ fn turn_with(zone: &ZoneLine, motion: &Motion) -> Option<Turn>
     }
 }
 
+/// Whether each axis of a motion goes by itself.
+fn is_rapid(motion: &Motion) -> bool
+    ensures { result ≡ model.is_rapid motion.now }
+{
+    match motion {
+        Motion::Rapid(_) => true,
+        Motion::Line(_) | Motion::Arc(_) => false,
+    }
+}
+
 /// The bounds of a box along a direction.
 fn bounds_of(cover: &Box3, direction: usize) -> (i32, i32)
     requires { direction < 3 }
@@ -121,6 +131,9 @@ pub(crate) fn track_of(
     let z = ends_along(job, zone, own, motion, 2);
     Track {
         channel,
+        zone: zone.zone.number,
+        line: own.line,
+        is_rapid: is_rapid(motion),
         from: [x.0, y.0, z.0],
         to: [x.1, y.1, z.1],
         turn: turn_with(zone, motion),
