@@ -12,6 +12,6 @@ mod views;
 
 pub use extents::{Extent, along, extent_of, has_motion};
 pub use marks::{put_attribute, put_box, put_ends, put_number, put_place, put_round, put_size};
-pub use shapes::{Deed, Look, Moment, Picture, Tile, Track, Turn};
+pub use shapes::{Deed, Look, Moment, Picture, Span, Tile, Track, Turn};
 pub use shown::put_shown;
 pub use views::View;

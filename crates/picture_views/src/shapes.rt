@@ -92,6 +92,17 @@ pub struct Moment {
     pub deed: Deed,
 }
 
+/// The time of a zone in which a box lies that the verdict names.
+#[derive(Clone, Copy)]
+pub struct Span {
+    /// How the box is named.
+    pub name: PlaceName,
+    /// The step with which the time begins; none where it begins with the job.
+    pub first: Option<u32>,
+    /// The step with which it ends; none where it lasts.
+    pub last: Option<u32>,
+}
+
 /// A picture of a run.
 #[derive(Drop)]
 pub struct Picture {
@@ -101,6 +112,8 @@ pub struct Picture {
     pub tracks: Vec<Track>,
     /// What the channels do in each step, in order.
     pub moments: Vec<Moment>,
+    /// The times of the two boxes that the verdict names, if it names any.
+    pub spans: Vec<Span>,
     /// The numbers of the channels, ascending: 1 to 8.
     pub channels: Vec<u8>,
     /// Whether something was left out since there is too much of it.

@@ -40,7 +40,7 @@ below picture letters = plus (views_end picture) (times (letter_of picture) lett
 
 -- the lanes
 unfoldable pub lanes_in : Picture → Lanes
-lanes_in picture = lanes_of picture (below picture (pos 6)) (letter_of picture)
+lanes_in picture = lanes_of picture (below picture (pos 8)) (letter_of picture)
 
 -- how wide and how tall the drawing is
 unfoldable pub page_of : Picture → ℤ × ℤ
@@ -75,7 +75,7 @@ views_text input job picture =
 unfoldable pub pair_text : ℤ × ℤ → List ℕ
 pair_text at = number_text at.0 ++ (codes " " ++ number_text at.1)
 
--- what the points of the lanes are
+-- what the signs of the drawing are
 unfoldable pub legend_text : ℤ × ℤ → List ℕ
 legend_text at = codes "<g transform=\"translate(" ++ (pair_text at ++ (codes ")\">\n" ++ LEGEND.now))
 
@@ -83,16 +83,16 @@ legend_text at = codes "<g transform=\"translate(" ++ (pair_text at ++ (codes ")
 unfoldable pub place_below : Picture → ℤ → ℤ × ℤ
 place_below picture letters = (times (letter_of picture) (pos 2), below picture letters)
 
--- what the points of the lanes are, and the lanes
+-- what the signs of the drawing are, and the lanes
 unfoldable pub legend_part : Picture → List ℕ
 legend_part picture = legend_text (place_below picture (pos 3))
 
-unfoldable pub lanes_part : Picture → List ℕ
-lanes_part picture = lanes_text (lanes_in picture) picture
+unfoldable pub lanes_part : List ℕ → JobView → Verdict → Picture → List ℕ
+lanes_part input job verdict picture = lanes_text input job verdict (lanes_in picture) picture
 
 -- what stands below the views
-unfoldable pub foot_text : Picture → List ℕ
-foot_text picture = legend_part picture ++ lanes_part picture
+unfoldable pub foot_text : List ℕ → JobView → Verdict → Picture → List ℕ
+foot_text input job verdict picture = legend_part picture ++ lanes_part input job verdict picture
 
 -- a note where something is left out, and the end
 unfoldable pub end_text : Picture → List ℕ
@@ -109,4 +109,4 @@ top_text input job title verdict picture = title_part input job title verdict pi
 
 -- the drawing of a picture of a job, from the lines of its input and with the verdict in these words
 unfoldable pub drawing_text : List ℕ → JobView → List ℕ → Verdict → Picture → List ℕ
-drawing_text input job title verdict picture = head_text picture ++ (top_text input job title verdict picture ++ (foot_text picture ++ end_text picture))
+drawing_text input job title verdict picture = head_text picture ++ (top_text input job title verdict picture ++ (foot_text input job verdict picture ++ end_text picture))

@@ -78,7 +78,7 @@ fn below(picture: &Picture, letters: i64) -> i64
 fn lanes_in(picture: &Picture) -> Lanes
     ensures { result ≡ model.lanes_in picture.now }
 {
-    Lanes::of(picture, below(picture, 6), letter_of(picture))
+    Lanes::of(picture, below(picture, 8), letter_of(picture))
 }
 
 /// How wide and how tall the drawing is.
@@ -122,7 +122,7 @@ fn styles() -> &'static str
     STYLES
 }
 
-/// What the points of the lanes are.
+/// What the signs of the drawing are.
 fn legend() -> &'static str
     ensures { result.now ≡ LEGEND.now }
 {
@@ -184,14 +184,14 @@ fn put_pair(text: &mut Text, at: (i64, i64))
     put_number(text, at.1);
 }
 
-/// Writes what each sign of the lanes is.
+/// Writes what each sign is.
 fn put_signs(text: &mut Text)
     ensures { text.new ≡ text.old ++ LEGEND.now }
 {
     text.say(legend());
 }
 
-/// Writes what the points of the lanes are, from a place on.
+/// Writes what the signs are, from a place on.
 #[tactic(auto, unfolding(crate::specs::Drawing::legend_text))]
 fn put_legend(text: &mut Text, at: (i64, i64))
     ensures { text.new ≡ text.old ++ model.legend_text at }
@@ -213,7 +213,7 @@ fn place_below(picture: &Picture, letters: i64) -> (i64, i64)
     )
 }
 
-/// Writes what the points of the lanes of a picture are.
+/// Writes what the signs of a picture are.
 #[tactic(auto, unfolding(crate::specs::Drawing::legend_part))]
 fn put_legend_part(text: &mut Text, picture: &Picture)
     ensures { text.new ≡ text.old ++ model.legend_part picture.now }
@@ -223,19 +223,21 @@ fn put_legend_part(text: &mut Text, picture: &Picture)
 
 /// Writes the lanes of a picture.
 #[tactic(auto, unfolding(crate::specs::Drawing::lanes_part))]
-fn put_lanes_part(text: &mut Text, picture: &Picture)
-    ensures { text.new ≡ text.old ++ model.lanes_part picture.now }
+fn put_lanes_part(text: &mut Text, told: &Told, verdict: &Verdict, picture: &Picture)
+    ensures { text.new ≡ text.old
+        ++ model.lanes_part told.now.lines.now told.now.job.now verdict.now picture.now }
 {
-    lanes_in(picture).put(text, picture);
+    lanes_in(picture).put(text, told, verdict, picture);
 }
 
-/// Writes what stands below the views: what the points of the lanes are, and the lanes.
+/// Writes what stands below the views: what its signs are, and the lanes.
 #[tactic(auto, unfolding(crate::specs::Drawing::foot_text))]
-fn put_foot(text: &mut Text, picture: &Picture)
-    ensures { text.new ≡ text.old ++ model.foot_text picture.now }
+fn put_foot(text: &mut Text, told: &Told, verdict: &Verdict, picture: &Picture)
+    ensures { text.new ≡ text.old
+        ++ model.foot_text told.now.lines.now told.now.job.now verdict.now picture.now }
 {
     put_legend_part(text, picture);
-    put_lanes_part(text, picture);
+    put_lanes_part(text, told, verdict, picture);
 }
 
 /// Writes that something was left out, where it was, and ends the drawing.
@@ -292,7 +294,7 @@ pub fn draw(
     let mut text = Text::new(alloc);
     put_head(&mut text, picture);
     put_top(&mut text, told, title, verdict, picture);
-    put_foot(&mut text, picture);
+    put_foot(&mut text, told, verdict, picture);
     put_end(&mut text, picture);
     text.finish()
 }

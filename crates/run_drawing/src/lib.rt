@@ -3,6 +3,7 @@
 #![tactic(auto)]
 
 mod drawing;
+mod events;
 mod space;
 mod styles;
 mod times;

@@ -80,7 +80,7 @@ fn put_holder(text: &mut Text, holder: Option<ChannelId>)
 
 /// Writes a zone, and who holds it.
 #[tactic(auto, unfolding(crate::specs::Words::zone_words))]
-fn put_zone(text: &mut Text, name: &PlaceName)
+pub(crate) fn put_zone(text: &mut Text, name: &PlaceName)
     ensures { text.new ≡ text.old ++ model.zone_words name.now }
 {
     text.say("zone ");
@@ -183,7 +183,7 @@ pub(crate) fn put_track_words(text: &mut Text, told: &Told, track: &Track)
 }
 
 /// The place of the first semicolon.
-fn first_semicolon(text: &[u8]) -> Option<usize>
+pub(crate) fn first_semicolon(text: &[u8]) -> Option<usize>
     ensures { result ≡ position model.is_semicolon text.now }
 {
     text.iter().position(|byte| *byte == b';')

@@ -2,5 +2,6 @@ pub mod Boxes
 pub mod Kept
 pub mod Moments
 pub mod Named
+pub mod Spans
 pub mod Tracks
 pub mod Turns

@@ -6,6 +6,7 @@ mod kept;
 mod moments;
 mod named;
 mod picture;
+mod spans;
 mod tracks;
 mod turns;
 

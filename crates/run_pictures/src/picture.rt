@@ -6,11 +6,13 @@ ghost use Rattle.run_pictures.specs.Boxes.{all_tiles};
 ghost use Rattle.run_pictures.specs.Kept.{IsShortened};
 ghost use Rattle.run_pictures.specs.Moments.{channels_of, moments_from};
 ghost use Rattle.run_pictures.specs.Named.{named_tiles};
+ghost use Rattle.run_pictures.specs.Spans as spans;
 ghost use Rattle.run_pictures.specs.Tracks.{all_tracks};
 
 use crate::kept::shortened;
 use crate::moments::{add_entries, channels_of};
 use crate::named::add_named;
+use crate::spans::named_spans;
 use crate::{boxes, tracks};
 use job_types::Job;
 use out_of_memory::NoMemory;
@@ -71,8 +73,8 @@ fn first_moments(alloc: Global, entries: &[Entry]) -> Result<(Vec<Moment>, bool)
 }
 
 /// The picture of a judged job, of which these boxes are the first that meet, if any do: all boxes of its zones by the pieces of
-/// their motions, up to 20,000, and over them in red the two that meet; the ways of the zones, up to 20,000; and what the channels
-/// do in each step, up to 2,000 moments. Where something is left out, `is_cut` is true. `NoMemory` where too little memory is found.
+/// their motions, up to 20,000, and over them in red the two that meet, with their times; the ways of the zones, up to 20,000; and what
+/// the channels do in each step, up to 2,000 moments. Where something is left out, `is_cut` is true. `NoMemory` where too little memory is found.
 pub fn picture_of(
     alloc: Global,
     job: &Job,
@@ -89,6 +91,7 @@ pub fn picture_of(
         ≡ take TILE_LIMIT (all_tracks job.now run.now stretches.now)) }
     ensures moments { IfOk result (λ picture. picture.moments.items
         ≡ take MOMENT_LIMIT (moments_from 0 run.now.entries)) }
+    ensures spans { IfOk result (λ picture. picture.spans.items ≡ spans.named_spans (option_copied first.entry)) }
     ensures channels { IfOk result (λ picture. picture.channels.items ≡ channels_of job.now) }
     ensures cut { IfOk result (λ picture. picture.is_cut
         ≡ (nat_lt TILE_LIMIT (length (all_tiles job.now run.now stretches.now))
@@ -103,6 +106,7 @@ pub fn picture_of(
         tiles,
         tracks,
         moments,
+        spans: named_spans(alloc, first)?,
         channels: channels_of(alloc, job)?,
         is_cut: few_tiles || few_tracks || few_moments,
     })
