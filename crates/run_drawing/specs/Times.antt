@@ -135,7 +135,7 @@ code_of text = option_map_or (λ place. take place text) (position is_semicolon 
 
 -- where the block of a moment stands
 unfoldable pub label_place : Lanes → Moment → ℤ × ℤ
-label_place lanes moment = (plus (x_of lanes moment.channel) (int_div lanes.letter (pos 2)), minus (y_of lanes moment.step) (int_div lanes.letter (pos 6)))
+label_place lanes moment = (plus (x_of lanes moment.channel) lanes.letter, minus (y_of lanes moment.step) (int_div lanes.letter (pos 6)))
 
 -- how many bytes of a block have room beside its point
 abbrev pub room_of : Lanes → ℕ
@@ -252,15 +252,26 @@ span_label lanes span = codes "<text class=\"step end bad\"" ++ (place_text (spa
 unfoldable pub span_text : List ℕ → JobView → Lanes → Span → List ℕ
 span_text input job lanes span = span_part input job lanes span ++ span_label lanes span
 
--- all spans that the verdict names, all moments, and all rings of waits for good; the last ones are not known where the picture is cut
+-- the verdict says that channels stop before their ends
+abbrev pub is_stop : Verdict → Bool
+is_stop (Race race) = false
+is_stop (Alarm channel alarm) = true
+is_stop (Stuck channel line) = true
+is_stop (Undecided count budget) = false
+is_stop (No left right) = false
+is_stop Yes = false
+
+-- all spans that the verdict names, and all moments
 unfoldable pub spans_part : List ℕ → JobView → Lanes → List Span → List ℕ
 spans_part input job lanes spans = flat_map (span_text input job lanes) spans
 
 unfoldable pub moments_part : List ℕ → JobView → Verdict → Lanes → List Moment → List ℕ
 moments_part input job verdict lanes moments = flat_map (moment_part input job verdict lanes) moments
 
-unfoldable pub ends_part : Lanes → Picture → List ℕ
-ends_part lanes picture = if picture.is_cut then [] else flat_map (end_part lanes picture.moments.items) picture.channels.items
+-- all rings of waits for good, where the verdict is of these; the last moments are not known where the picture is cut
+unfoldable pub ends_part : Verdict → Lanes → Picture → List ℕ
+ends_part verdict lanes picture =
+    if is_stop verdict && not picture.is_cut then flat_map (end_part lanes picture.moments.items) picture.channels.items else []
 
 -- the lanes, and on them the spans
 unfoldable pub lines_text : List ℕ → JobView → Lanes → Picture → List ℕ
@@ -269,4 +280,4 @@ lines_text input job lanes picture = flat_map (lane_text lanes) picture.channels
 -- the lanes, and on them the spans and what the channels do
 unfoldable pub lanes_text : List ℕ → JobView → Verdict → Lanes → Picture → List ℕ
 lanes_text input job verdict lanes picture =
-    lines_text input job lanes picture ++ (ends_part lanes picture ++ moments_part input job verdict lanes picture.moments.items)
+    lines_text input job lanes picture ++ (ends_part verdict lanes picture ++ moments_part input job verdict lanes picture.moments.items)

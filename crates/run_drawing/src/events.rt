@@ -112,6 +112,16 @@ fn is_raced(verdict: &Verdict, moment: &Moment) -> bool
     }
 }
 
+/// Whether the verdict says that channels stop before their ends.
+fn is_stop(verdict: &Verdict) -> bool
+    ensures { result ≡ model.is_stop verdict.now }
+{
+    match verdict {
+        Verdict::Alarm(_, _) | Verdict::Stuck(_, _) => true,
+        Verdict::Race(_) | Verdict::Undecided { .. } | Verdict::No(_, _) | Verdict::Yes => false,
+    }
+}
+
 /// The last moment of a channel; none where it has none.
 #[tactic(auto, unfolding(crate::specs::Times::last_moment))]
 fn last_moment(moments: &[Moment], channel: u8) -> Option<Moment>
@@ -274,12 +284,13 @@ impl Lanes {
         }
     }
 
-    /// Writes rings where channels wait for good. The last moments are not known where the picture is cut.
+    /// Writes rings where channels wait for good, where the verdict is of these. The last moments are not known where the picture
+    /// is cut.
     #[tactic(auto, unfolding(crate::specs::Times::ends_part))]
-    fn put_all_ends(&self, text: &mut Text, picture: &Picture)
-        ensures { text.new ≡ text.old ++ model.ends_part self.now picture.now }
+    fn put_all_ends(&self, text: &mut Text, verdict: &Verdict, picture: &Picture)
+        ensures { text.new ≡ text.old ++ model.ends_part verdict.now self.now picture.now }
     {
-        if !picture.is_cut {
+        if is_stop(verdict) && !picture.is_cut {
             self.put_each_end(text, picture.moments.as_slice(), picture.channels.as_slice());
         }
     }
@@ -398,7 +409,7 @@ impl Lanes {
             ++ model.lanes_text told.now.lines.now told.now.job.now verdict.now self.now picture.now }
     {
         self.put_lines(text, told, picture);
-        self.put_all_ends(text, picture);
+        self.put_all_ends(text, verdict, picture);
         self.put_moments(text, told, verdict, picture.moments.as_slice());
     }
 }

@@ -48,7 +48,7 @@ pub(crate) const LEGEND: &str = "<line class=\"t\" x1=\"0\" y1=\"0\" x2=\"2em\" 
 <rect class=\"red\" x=\"33em\" y=\"-.5em\" width=\"1.5em\" height=\"1em\"/>
 <text x=\"35em\" y=\".35em\">can meet</text>
 <circle class=\"act\" cx=\".4em\" cy=\"2em\" r=\".33em\"/>
-<text x=\"1.2em\" y=\"2.35em\">block of a mark, START, GET ..</text>
+<text x=\"1.2em\" y=\"2.35em\">SETM, CLEARM, START ..</text>
 <circle class=\"wait\" cx=\"17.4em\" cy=\"2em\" r=\".33em\"/>
 <text x=\"18.2em\" y=\"2.35em\">waits</text>
 <circle class=\"go\" cx=\"22.4em\" cy=\"2em\" r=\".33em\"/>

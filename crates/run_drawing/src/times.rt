@@ -299,7 +299,7 @@ impl Lanes {
     {
         let at = self.place_of(moment);
         (
-            at.0.saturating_add(self.letter / 2),
+            at.0.saturating_add(self.letter),
             at.1.saturating_sub(self.letter / 6),
         )
     }
