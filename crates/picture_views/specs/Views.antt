@@ -11,7 +11,7 @@ use Rattle.picture_views.specs.declared.shapes.Turn.{Turn}
 use Rattle.picture_views.specs.declared.views.View.{View}
 use Rattle.picture_views.specs.Extents.{extent_of}
 use Rattle.picture_views.specs.Extents.{length_of as extent_length}
-use Rattle.picture_views.specs.Marks.{along, box_text, class_text, ends_text, length_of, look_text, minus, number_text, place_text, plus, round_text, times}
+use Rattle.picture_views.specs.Marks.{along, box_text, class_text, ends_text, length_of, look_text, minus, number_text, pale_class, place_text, plus, round_text, times}
 use Rattle.picture_views.specs.Turns.{is_clockwise, is_in_plane, is_large, opposite}
 
 -- the view of a picture over Z, four letters from the left edge of the drawing
@@ -46,7 +46,8 @@ size_of view tile = (length_of (along tile.space.lo view.across) (along tile.spa
 
 -- a box from its upper left corner on, as far as it reaches
 unfoldable pub tile_text : View → Tile → List ℕ
-tile_text view tile = codes "<rect class=\"" ++ (look_text tile.look ++ (codes "\"" ++ box_text (corner_of view tile) (size_of view tile)))
+tile_text view tile =
+    codes "<rect class=\"" ++ (pale_class tile.is_pale ++ (look_text tile.look ++ (codes "\"" ++ box_text (corner_of view tile) (size_of view tile))))
 
 -- how far below the upper edge of a box its name stands: near the lower edge in the second of two
 abbrev pub depth_by : Look → ℤ → ℤ → ℤ
@@ -97,11 +98,15 @@ way_text view track = option_map_or (λ turn. bent_text view turn track) track.t
 
 -- the class of a way: one in which each axis goes by itself has a class of its own
 abbrev pub way_class : Bool → List ℕ
-way_class rapid = if rapid then codes "<path class=\"t r d" else codes "<path class=\"t d"
+way_class rapid = if rapid then codes "t r d" else codes "t d"
 
--- where it starts, in the colour of its channel
+-- its classes, the last of them the colour of its channel
+unfoldable pub way_colour : Track → List ℕ
+way_colour track = codes "<path class=\"" ++ (pale_class track.is_pale ++ (way_class track.is_rapid ++ decimal track.channel))
+
+-- where it starts
 unfoldable pub way_start : View → Track → List ℕ
-way_start view track = way_class track.is_rapid ++ (decimal track.channel ++ (codes "\" d=\"M " ++ point_text view track.from))
+way_start view track = way_colour track ++ (codes "\" d=\"M " ++ point_text view track.from)
 
 -- a way
 unfoldable pub track_text : View → Track → List ℕ

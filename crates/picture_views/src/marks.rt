@@ -113,6 +113,13 @@ pub(crate) fn length_of(low: i64, high: i64) -> i64
     if length < 0 { 0 } else { length }
 }
 
+/// The class of what is pale, before others.
+pub(crate) fn pale_class(pale: bool) -> &'static str
+    ensures { result.now ≡ model.pale_class pale }
+{
+    if pale { "p " } else { "" }
+}
+
 /// Writes the class of a box.
 #[tactic(auto, unfolding(crate::specs::Marks::look_text))]
 pub(crate) fn put_look(text: &mut Text, look: Look)

@@ -28,6 +28,8 @@ pub struct Tile {
     pub moves: bool,
     /// Whether its name is written into it.
     pub is_labelled: bool,
+    /// Whether it is apart in time from what is looked at.
+    pub is_pale: bool,
 }
 
 /// How a track turns.
@@ -56,6 +58,8 @@ pub struct Track {
     pub line: u32,
     /// Whether each axis goes by itself.
     pub is_rapid: bool,
+    /// Whether it is apart in time from what is looked at.
+    pub is_pale: bool,
     /// Where it begins.
     pub from: [i64; 3],
     /// Where it ends.

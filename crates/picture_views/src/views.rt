@@ -1,10 +1,10 @@
 //! A view of a picture: one direction of space upwards over another across.
 ghost use Rattle.std.specs.Prelude.{◌≡◌, ◌++◌, option_copied};
-ghost use Rattle.picture_views.specs.Views.{first_track_of, large_flag, sweep_flag, up_name, way_class};
+ghost use Rattle.picture_views.specs.Views.{first_track_of, large_flag, sweep_flag, up_name, way_class, way_colour};
 
 use crate::extents::{Extent, along, bounds_of, extent_of};
 use crate::marks::{
-    length_of, put_box, put_ends, put_look, put_number, put_place, put_point_class, put_round,
+    length_of, pale_class, put_box, put_ends, put_look, put_number, put_place, put_point_class, put_round,
 };
 use crate::shapes::{Look, Picture, Tile, Track, Turn};
 use crate::turns::{is_clockwise, is_in_plane, is_large, opposite};
@@ -116,6 +116,7 @@ impl View {
         ensures { text.new ≡ text.old ++ model.tile_text self.now tile.now }
     {
         text.say("<rect class=\"");
+        text.say(pale_class(tile.is_pale));
         put_look(text, tile.look);
         text.say("\"");
         put_box(text, self.corner_of(tile), self.size_of(tile));
@@ -219,13 +220,12 @@ impl View {
         }
     }
 
-    /// Writes where a way starts, in the colour of its channel.
+    /// Writes where a way starts.
     #[tactic(auto, unfolding(crate::specs::Views::way_start))]
     fn put_way_start(&self, text: &mut Text, track: &Track)
         ensures { text.new ≡ text.old ++ model.way_start self.now track.now }
     {
-        text.say(way_class(track.is_rapid));
-        text.number(u64::from(track.channel));
+        put_way_colour(text, track);
         text.say("\" d=\"M ");
         self.put_point(text, &track.from);
     }
@@ -390,15 +390,22 @@ fn first_track(tracks: &[Track], channel: u8) -> Option<&Track>
     tracks.iter().find(|track| track.channel == channel)
 }
 
-/// The beginning of a way, up to the number of its channel.
+/// The class of a way, up to the number of its channel.
 fn way_class(rapid: bool) -> &'static str
     ensures { result.now ≡ way_class rapid }
 {
-    if rapid {
-        "<path class=\"t r d"
-    } else {
-        "<path class=\"t d"
-    }
+    if rapid { "t r d" } else { "t d" }
+}
+
+/// Writes the classes of a way, the last of them the colour of its channel.
+#[tactic(auto, unfolding(crate::specs::Views::way_colour))]
+fn put_way_colour(text: &mut Text, track: &Track)
+    ensures { text.new ≡ text.old ++ way_colour track.now }
+{
+    text.say("<path class=\"");
+    text.say(pale_class(track.is_pale));
+    text.say(way_class(track.is_rapid));
+    text.number(u64::from(track.channel));
 }
 
 /// Whether an arc is more than half a circle, as a path says it.

@@ -8,6 +8,7 @@ pub(crate) const STYLES: &str = "<style>
 .d1{color:#0a3c61}.d2{color:#7a3d00}.d3{color:#0f5511}.d4{color:#4a2a6e}
 .d5{color:#462a25}.d6{color:#6e1f58}.d7{color:#404000}.d8{color:#08505a}
 .b{fill:currentColor;fill-opacity:.05;stroke:currentColor;stroke-opacity:.35;stroke-width:.05em}
+.p{opacity:.3}
 .free{fill:url(#hatch);stroke:#666;stroke-width:.05em}
 .red{fill:#d62728;fill-opacity:.25;stroke:#d62728;stroke-width:.15em}
 .t{fill:none;stroke:currentColor;stroke-width:.1em;marker-end:url(#arrow)}

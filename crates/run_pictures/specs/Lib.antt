@@ -1,4 +1,5 @@
 pub mod Boxes
+pub mod Focus
 pub mod Kept
 pub mod Moments
 pub mod Named

@@ -3,12 +3,12 @@ use Rattle.std.specs.Prelude.{◌==◌, true, false, List, [], ◌∷◌, ◌++�
 use Rattle.std.specs.Option.{is_some, option_map_or}
 use Rattle.job_types.specs.Job.{JobView}
 use Rattle.protection_zones.specs.Pieces.{piece_boxes}
-use Rattle.protection_zones.specs.Stretches.{StretchView}
 use Rattle.protection_zones.specs.declared.stretches.ZoneBox.{ZoneBox}
 use Rattle.picture_views.specs.declared.shapes.Look.{Look}
 use Rattle.picture_views.specs.declared.shapes.Look.TheVariants.{First, Second}
 use Rattle.picture_views.specs.declared.shapes.Tile.{Tile}
 use Rattle.run_pictures.specs.Boxes.{in_piece}
+use Rattle.run_pictures.specs.Focus.{stretch_of}
 use Rattle.swept_boxes.specs.declared.Box3.{Box3}
 use Rattle.sync_types.specs.Views.{RunView}
 use Rattle.told_places.specs.declared.place.Meeting.{Meeting}
@@ -21,12 +21,9 @@ labelled tile (piece ∷ pieces) = in_piece tile piece ∷ labelled (record tile
 
 -- the box of a place, in this look and with its name
 abbrev pub named_tile : Look → Place → Tile
-named_tile look place = record { space = place.cover; look = look; name = place.name; moves = is_some place.motion; is_labelled = true }
+named_tile look place = record { space = place.cover; look = look; name = place.name; moves = is_some place.motion; is_labelled = true; is_pale = false }
 
--- the stretch and the box of a place; of a stretch no boxes are asked for
-abbrev pub stretch_of : Place → StretchView
-stretch_of place = record { name = place.name; first = place.first; last = place.last; entry = place.entry; boxes = [] }
-
+-- the box of a place
 abbrev pub box_of : Place → ZoneBox
 box_of place = record { line = place.name.line; motion = place.motion; from = place.from; to = place.to; cover = place.cover }
 

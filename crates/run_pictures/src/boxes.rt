@@ -3,14 +3,16 @@ ghost use Rattle.std.specs.Prelude.{◌≡◌, ◌≤◌, ◌++◌, All, IfOk, f
 ghost use Rattle.job_lines.specs.declared.limits.TheConstants.{DEPTH_LIMIT};
 ghost use Rattle.protection_zones.specs.ZoneBoxes.{IsFit};
 ghost use Rattle.run_pictures.specs.Boxes as model;
+ghost use Rattle.run_pictures.specs.Focus.{view_of};
 
 use crate::kept::keep;
-use job_types::{Job, ZoneLine};
+use crate::scene::{Scene, is_apart};
+use job_types::ZoneLine;
 use out_of_memory::NoMemory;
 use picture_views::{Look, Tile};
 use protection_zones::{Stretch, Stretches, ZoneBox, boxes_by_pieces, zone_at};
 use swept_boxes::Box3;
-use sync_types::{PlaceName, Run};
+use sync_types::PlaceName;
 
 /// How a box is drawn: as one of the channel that holds its zone, or as one that nobody holds.
 pub(crate) fn look_of(name: &PlaceName) -> Look
@@ -22,9 +24,9 @@ pub(crate) fn look_of(name: &PlaceName) -> Look
     }
 }
 
-/// A box of a stretch, with its own line and the look of its holder.
-fn tile_of(stretch: &Stretch, own: &ZoneBox) -> Tile
-    ensures { result ≡ model.tile_of stretch.now own.now }
+/// A box of a stretch, pale or not, with its own line and the look of its holder.
+fn tile_of(stretch: &Stretch, own: &ZoneBox, pale: bool) -> Tile
+    ensures { result ≡ model.tile_of pale stretch.now own.now }
 {
     let mut name = stretch.name;
     name.line = own.line;
@@ -34,6 +36,7 @@ fn tile_of(stretch: &Stretch, own: &ZoneBox) -> Tile
         name,
         moves: own.motion.is_some(),
         is_labelled: false,
+        is_pale: pale,
     }
 }
 
@@ -66,37 +69,38 @@ fn add_pieces(
 fn add_box(
     tiles: &mut Vec<Tile>,
     limit: usize,
-    job: &Job,
-    run: &Run,
+    scene: &Scene,
+    pale: bool,
     zone: &ZoneLine,
     stretch: &Stretch,
     own: &ZoneBox,
 ) -> Result<(), NoMemory>
-    requires fit { All (All IsFit) run.now.items }
-    requires deep { job.now.depth ≤ DEPTH_LIMIT }
+    requires fit { All (All IsFit) scene.now.run.now.items }
+    requires deep { scene.now.job.now.depth ≤ DEPTH_LIMIT }
     ensures { IfOk result (λ _. take limit tiles.new.items
-        ≡ take limit (tiles.old.items ++ model.tiles_of_box job.now run.now zone.now stretch.now own.now)) }
+        ≡ take limit (tiles.old.items
+        ++ model.tiles_of_box scene.now.job.now scene.now.run.now pale zone.now stretch.now own.now)) }
 {
-    let pieces = boxes_by_pieces(job, run, zone, stretch, own);
-    add_pieces(tiles, limit, pieces.as_slice(), &tile_of(stretch, own))
+    let pieces = boxes_by_pieces(scene.job, scene.run, zone, stretch, own);
+    add_pieces(tiles, limit, pieces.as_slice(), &tile_of(stretch, own, pale))
 }
 
-/// Adds the boxes of a stretch.
+/// Adds the boxes of a stretch, pale where it is apart in time from what is looked at.
 fn add_stretch(
     tiles: &mut Vec<Tile>,
     limit: usize,
-    job: &Job,
-    run: &Run,
+    scene: &Scene,
     zone: &ZoneLine,
     stretch: &Stretch,
 ) -> Result<(), NoMemory>
-    requires fit { All (All IsFit) run.now.items }
-    requires deep { job.now.depth ≤ DEPTH_LIMIT }
+    requires fit { All (All IsFit) scene.now.run.now.items }
+    requires deep { scene.now.job.now.depth ≤ DEPTH_LIMIT }
     ensures { IfOk result (λ _. take limit tiles.new.items
-        ≡ take limit (tiles.old.items ++ model.tiles_of_stretch job.now run.now zone.now stretch.now)) }
+        ≡ take limit (tiles.old.items ++ model.tiles_of_stretch (view_of scene.now) zone.now stretch.now)) }
 {
+    let pale = is_apart(scene, stretch);
     for own in &stretch.boxes {
-        add_box(tiles, limit, job, run, zone, stretch, own)?;
+        add_box(tiles, limit, scene, pale, zone, stretch, own)?;
     }
     Ok(())
 }
@@ -105,18 +109,17 @@ fn add_stretch(
 fn add_stretches(
     tiles: &mut Vec<Tile>,
     limit: usize,
-    job: &Job,
-    run: &Run,
+    scene: &Scene,
     zone: &ZoneLine,
     stretches: &[Stretch],
 ) -> Result<(), NoMemory>
-    requires fit { All (All IsFit) run.now.items }
-    requires deep { job.now.depth ≤ DEPTH_LIMIT }
+    requires fit { All (All IsFit) scene.now.run.now.items }
+    requires deep { scene.now.job.now.depth ≤ DEPTH_LIMIT }
     ensures { IfOk result (λ _. take limit tiles.new.items
-        ≡ take limit (tiles.old.items ++ flat_map (model.tiles_of_stretch job.now run.now zone.now) stretches.now)) }
+        ≡ take limit (tiles.old.items ++ flat_map (model.tiles_of_stretch (view_of scene.now) zone.now) stretches.now)) }
 {
     for stretch in stretches {
-        add_stretch(tiles, limit, job, run, zone, stretch)?;
+        add_stretch(tiles, limit, scene, zone, stretch)?;
     }
     Ok(())
 }
@@ -136,24 +139,21 @@ pub(crate) fn stretches_at(stretches: &Stretches, place: usize) -> &[Stretch]
 fn add_zone(
     tiles: &mut Vec<Tile>,
     limit: usize,
-    job: &Job,
-    run: &Run,
-    stretches: &Stretches,
+    scene: &Scene,
     place: usize,
 ) -> Result<(), NoMemory>
-    requires fit { All (All IsFit) run.now.items }
-    requires deep { job.now.depth ≤ DEPTH_LIMIT }
+    requires fit { All (All IsFit) scene.now.run.now.items }
+    requires deep { scene.now.job.now.depth ≤ DEPTH_LIMIT }
     ensures { IfOk result (λ _. take limit tiles.new.items
-        ≡ take limit (tiles.old.items ++ model.tiles_of_zone job.now run.now stretches.now place)) }
+        ≡ take limit (tiles.old.items ++ model.tiles_of_zone (view_of scene.now) place)) }
 {
-    match zone_at(job, place) {
+    match zone_at(scene.job, place) {
         Some(zone) => add_stretches(
             tiles,
             limit,
-            job,
-            run,
+            scene,
             &zone,
-            stretches_at(stretches, place),
+            stretches_at(scene.stretches, place),
         ),
         None => Ok(()),
     }
@@ -164,17 +164,15 @@ fn add_zone(
 pub(crate) fn add_zones(
     tiles: &mut Vec<Tile>,
     limit: usize,
-    job: &Job,
-    run: &Run,
-    stretches: &Stretches,
+    scene: &Scene,
 ) -> Result<(), NoMemory>
-    requires fit { All (All IsFit) run.now.items }
-    requires deep { job.now.depth ≤ DEPTH_LIMIT }
+    requires fit { All (All IsFit) scene.now.run.now.items }
+    requires deep { scene.now.job.now.depth ≤ DEPTH_LIMIT }
     ensures { IfOk result (λ _. take limit tiles.new.items
-        ≡ take limit (tiles.old.items ++ model.all_tiles job.now run.now stretches.now)) }
+        ≡ take limit (tiles.old.items ++ model.all_tiles (view_of scene.now))) }
 {
-    for place in 0..stretches.zones.len() {
-        add_zone(tiles, limit, job, run, stretches, place)?;
+    for place in 0..scene.stretches.zones.len() {
+        add_zone(tiles, limit, scene, place)?;
     }
     Ok(())
 }

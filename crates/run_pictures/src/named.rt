@@ -2,6 +2,7 @@
 ghost use Rattle.std.specs.Prelude.{◌≡◌, ◌≤◌, ◌++◌, ◌==◌, All, IfOk, find, option_copied};
 ghost use Rattle.job_lines.specs.declared.limits.TheConstants.{DEPTH_LIMIT};
 ghost use Rattle.protection_zones.specs.ZoneBoxes.{IsFit};
+ghost use Rattle.run_pictures.specs.Focus.{stretch_of};
 ghost use Rattle.run_pictures.specs.Named as model;
 
 use crate::boxes::in_piece;
@@ -37,6 +38,7 @@ fn named_tile(place: &Place, look: Look) -> Tile
         name: place.name,
         moves: place.motion.is_some(),
         is_labelled: true,
+        is_pale: false,
     }
 }
 
@@ -49,7 +51,7 @@ fn zone_of(job: &Job, zone: ZoneId) -> Option<&ZoneLine>
 
 /// The stretch of a box, of which it is said what a box needs to be cut into pieces.
 fn stretch_of(alloc: Global, place: &Place) -> Stretch
-    ensures { result ≡ model.stretch_of place.now }
+    ensures { result ≡ stretch_of place.now }
 {
     Stretch {
         name: place.name,
