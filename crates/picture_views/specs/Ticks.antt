@@ -1,17 +1,30 @@
 -- Meaning. Lines over a view at whole millimetres, each with its number.
-use Rattle.std.specs.Prelude.{ℕ, ℤ, pos, ◌&&◌, Bool, List, [], ◌++◌, if◌then◌else◌, find, flat_map, int_div, codes}
+use Rattle.std.specs.Prelude.{ℕ, ℤ, pos, ◌&&◌, Bool, List, [], ◌++◌, if◌then◌else◌, flat_map, int_div, int_lt, codes}
 use Rattle.std.specs.Int.RustNames.{int_le}
 use Rattle.std.specs.List.{range_with_len}
-use Rattle.std.specs.Option.{unwrap_or}
 use Rattle.picture_views.specs.declared.extents.Extent.{Extent}
-use Rattle.picture_views.specs.declared.ticks.TheConstants.{TICK_COUNT, TICK_LIMIT, TICK_STEPS, WIDEST_STEP}
+use Rattle.picture_views.specs.declared.ticks.TheConstants.{TICK_COUNT, TICK_LIMIT}
 use Rattle.picture_views.specs.declared.views.View.{View}
 use Rattle.picture_views.specs.Marks.{ends_text, minus, number_text, place_text, plus, times}
 use Rattle.picture_views.specs.Views.{bottom_of, right_of, x_of, y_of}
 
--- how far it is from one line to the next: the least of the lengths that leaves a number four letters of room
+-- a power of ten millimetres that is some ten letters long
+unfoldable pub decade_of : ℤ → ℤ
+decade_of letter =
+    if int_lt letter (pos 800) then pos 1000
+    else if int_lt letter (pos 8000) then pos 10000
+    else if int_lt letter (pos 80000) then pos 100000
+    else if int_lt letter (pos 800000) then pos 1000000
+    else if int_lt letter (pos 8000000) then pos 10000000
+    else pos 100000000
+
+-- how far it is from one line to the next: the half of that, itself, its double or five times of it, the least that leaves a number four letters of room
 unfoldable pub step_of : ℤ → ℤ
-step_of letter = unwrap_or (find (λ step. int_le (times letter (pos 4)) step) TICK_STEPS) WIDEST_STEP
+step_of letter =
+    if int_le (times letter (pos 4)) (int_div (decade_of letter) (pos 2)) then int_div (decade_of letter) (pos 2)
+    else if int_le (times letter (pos 4)) (decade_of letter) then decade_of letter
+    else if int_le (times letter (pos 4)) (times (decade_of letter) (pos 2)) then times (decade_of letter) (pos 2)
+    else times (decade_of letter) (pos 5)
 
 -- the place of a line, counted from the farthest below 0
 unfoldable pub tick_at : View → ℕ → ℤ

@@ -1,6 +1,5 @@
 //! Lines over a view at whole millimetres, each with its number.
-ghost use Rattle.std.specs.Prelude.{◌≡◌, ◌++◌, find};
-ghost use Rattle.std.specs.Int.RustNames.{int_le};
+ghost use Rattle.std.specs.Prelude.{◌≡◌, ◌++◌};
 ghost use Rattle.picture_views.specs.Ticks as model;
 
 use crate::extents::Extent;
@@ -8,52 +7,48 @@ use crate::marks::{put_ends, put_number, put_place};
 use crate::views::View;
 use growing_text::Text;
 
-/// The lengths from one line to the next, in micrometres.
-const TICK_STEPS: [i64; 18] = [
-    1_000,
-    2_000,
-    5_000,
-    10_000,
-    20_000,
-    50_000,
-    100_000,
-    200_000,
-    500_000,
-    1_000_000,
-    2_000_000,
-    5_000_000,
-    10_000_000,
-    20_000_000,
-    50_000_000,
-    100_000_000,
-    200_000_000,
-    500_000_000,
-];
-
-/// The length where none of these is long enough.
-const WIDEST_STEP: i64 = 1_000_000_000;
-
 /// The most lines on each side of 0. A view is fifty letters long at most, and a step four at least.
 const TICK_LIMIT: u32 = 16;
 
 /// The most lines in all.
 const TICK_COUNT: u32 = 33;
 
-/// The first of some lengths that is not below another.
-fn first_from(steps: &[i64], least: i64) -> Option<i64>
-    ensures { result ≡ find (λ step. int_le least step) steps.now }
+/// A power of ten millimetres that is some ten letters long.
+#[tactic(auto, unfolding(crate::specs::Ticks::decade_of))]
+fn decade_of(letter: i64) -> i64
+    ensures { result ≡ model.decade_of letter }
 {
-    steps.iter().copied().find(|step| least <= *step)
+    if letter < 800 {
+        1_000
+    } else if letter < 8_000 {
+        10_000
+    } else if letter < 80_000 {
+        100_000
+    } else if letter < 800_000 {
+        1_000_000
+    } else if letter < 8_000_000 {
+        10_000_000
+    } else {
+        100_000_000
+    }
 }
 
-/// How far it is from one line to the next: the least length that leaves a number four letters of room.
+/// How far it is from one line to the next: the half of that, itself, its double or five times of it, the least that leaves a number
+/// four letters of room.
 #[tactic(auto, unfolding(crate::specs::Ticks::step_of))]
 fn step_of(letter: i64) -> i64
     ensures { result ≡ model.step_of letter }
 {
-    match first_from(&TICK_STEPS, letter.saturating_mul(4)) {
-        Some(step) => step,
-        None => WIDEST_STEP,
+    let decade = decade_of(letter);
+    let room = letter.saturating_mul(4);
+    if room <= decade / 2 {
+        decade / 2
+    } else if room <= decade {
+        decade
+    } else if room <= decade.saturating_mul(2) {
+        decade.saturating_mul(2)
+    } else {
+        decade.saturating_mul(5)
     }
 }
 
