@@ -1,6 +1,6 @@
 -- Meaning. The time of the channels: a lane for each, downwards.
 use Rattle.std.specs.Prelude.{ℕ, ℤ, pos, ◌+◌, ◌-◌, ◌^◌, min, not, ◌==◌, ◌&&◌, ◌||◌, nat_le, Bool, true, false, List, [], ◌++◌, if◌then◌else◌, flat_map, length, slice_get, take, int_div, codes, Option, None, Some}
-use Rattle.std.specs.List.{filter_map, last_or, position}
+use Rattle.std.specs.List.{fold, position}
 use Rattle.std.specs.Option.{option_map_or, unwrap_or}
 use Rattle.std.specs.Fmt.{decimal}
 use Rattle.picture_views.specs.declared.shapes.Deed.{Deed}
@@ -190,9 +190,13 @@ is_raced (Undecided count budget) moment = false
 is_raced (No left right) moment = false
 is_raced Yes moment = false
 
+-- the radius of a ring
+abbrev pub ring_radius : Lanes → ℤ
+ring_radius lanes = times (int_div lanes.letter (pos 5)) (pos 3)
+
 -- a red ring around a point
 unfoldable pub ring_text : Lanes → ℤ × ℤ → List ℕ
-ring_text lanes at = codes "<circle class=\"bad\"" ++ round_text at (times (int_div lanes.letter (pos 5)) (pos 3))
+ring_text lanes at = codes "<circle class=\"bad\"" ++ round_text at (ring_radius lanes)
 
 -- around a place of a race
 unfoldable pub raced_text : Verdict → Lanes → Moment → List ℕ
@@ -210,12 +214,13 @@ moment_part input job verdict lanes moment = raced_text verdict lanes moment ++ 
 unfoldable pub last_ring : Lanes → Moment → List ℕ
 last_ring lanes moment = if is_wait moment.deed then ring_text lanes (place_of lanes moment) else []
 
--- the last moment of a channel
-abbrev pub own_moment : ℕ → Moment → Option Moment
-own_moment channel moment = if moment.channel == channel then Some moment else None
+-- a moment of a channel in place of an earlier one
+abbrev pub later_moment : ℕ → Option Moment → Moment → Option Moment
+later_moment channel earlier moment = if moment.channel == channel then Some moment else earlier
 
+-- the last moment of a channel
 unfoldable pub last_moment : List Moment → ℕ → Option Moment
-last_moment moments channel = last_or None (filter_map (own_moment channel) moments)
+last_moment moments channel = fold (later_moment channel) None moments
 
 -- a ring around it where the channel waits for good
 unfoldable pub end_part : Lanes → List Moment → ℕ → List ℕ

@@ -13,7 +13,7 @@ use Rattle.picture_views.specs.Shown.{shown_text}
 use Rattle.picture_views.specs.declared.shapes.Tile.{Tile}
 use Rattle.picture_views.specs.declared.shapes.Track.{Track}
 use Rattle.sync_types.specs.declared.verdicts.PlaceName.{PlaceName}
-use Rattle.told_places.specs.Lines.{number_text, of_text, program_name}
+use Rattle.told_places.specs.Lines.{channel_text, number_text, of_text, program_name}
 
 -- the number of a line, and that of its block
 unfoldable pub number_words : List ℕ → ℕ → List ℕ
@@ -29,7 +29,7 @@ block_words input job line = line_words input job line ++ (codes ": " ++ shown_t
 
 -- who holds a zone
 unfoldable pub holder_words : Option ℕ → List ℕ
-holder_words (Some channel) = codes " of channel " ++ decimal channel
+holder_words (Some channel) = codes " of " ++ channel_text channel
 holder_words None = codes " held by nobody"
 
 -- a zone, and who holds it

@@ -122,6 +122,17 @@ fn is_stop(verdict: &Verdict) -> bool
     }
 }
 
+/// A moment in place of an earlier one, if it is of the channel.
+fn later_moment(earlier: Option<Moment>, moment: &Moment, channel: u8) -> Option<Moment>
+    ensures { result ≡ model.later_moment channel earlier moment.now }
+{
+    if moment.channel == channel {
+        Some(*moment)
+    } else {
+        earlier
+    }
+}
+
 /// The last moment of a channel; none where it has none.
 #[tactic(auto, unfolding(crate::specs::Times::last_moment))]
 fn last_moment(moments: &[Moment], channel: u8) -> Option<Moment>
@@ -129,9 +140,7 @@ fn last_moment(moments: &[Moment], channel: u8) -> Option<Moment>
 {
     let mut last = None;
     for moment in moments {
-        if moment.channel == channel {
-            last = Some(*moment);
-        }
+        last = later_moment(last, moment, channel);
     }
     last
 }
@@ -204,13 +213,20 @@ impl Lanes {
         text.say("</g>\n");
     }
 
+    /// The radius of a ring.
+    fn ring_radius(&self) -> i64
+        ensures { result ≡ model.ring_radius self.now }
+    {
+        (self.letter / 5).saturating_mul(3)
+    }
+
     /// Writes a red ring around a point.
     #[tactic(auto, unfolding(crate::specs::Times::ring_text))]
     fn put_ring(&self, text: &mut Text, at: (i64, i64))
         ensures { text.new ≡ text.old ++ model.ring_text self.now at }
     {
         text.say("<circle class=\"bad\"");
-        put_round(text, at, (self.letter / 5).saturating_mul(3));
+        put_round(text, at, self.ring_radius());
     }
 
     /// Writes a ring around a place of a race.

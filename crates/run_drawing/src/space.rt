@@ -1,12 +1,12 @@
 //! What is drawn in a view of space: the boxes and the ways, each with what there is to know of it.
-ghost use Rattle.std.specs.Prelude.{◌≡◌, ◌++◌, option_copied};
+ghost use Rattle.std.specs.Prelude.{◌≡◌, ◌++◌, flat_map, option_copied};
 ghost use Rattle.run_drawing.specs.Space as model;
 ghost use Rattle.run_drawing.specs.Words.{tile_words, track_words};
 
 use crate::words::{put_tile_label, put_tile_words, put_track_words, put_zone_label};
 use growing_text::Text;
 use input_lines::Lines;
-use job_types::ZoneLine;
+use job_types::{Job, ZoneLine};
 use picture_views::{Picture, Tile, Track, View, put_place};
 use told_places::Told;
 
@@ -119,14 +119,28 @@ fn put_tracks(text: &mut Text, told: &Told, view: &View, tracks: &[Track])
     }
 }
 
+/// The zones of a job.
+fn zones_of(job: &Job) -> &[ZoneLine]
+    ensures { result.now ≡ job.now.zones }
+{
+    job.zones.as_slice()
+}
+
+/// Writes these zones.
+fn put_each_zone(text: &mut Text, lines: &Lines, view: &View, tiles: &[Tile], zones: &[ZoneLine])
+    ensures { text.new ≡ text.old ++ flat_map (model.zone_part lines.now view.now tiles.now) zones.now }
+{
+    for zone in zones {
+        put_zone(text, lines, view, tiles, zone);
+    }
+}
+
 /// Writes all zones.
 #[tactic(auto, unfolding(crate::specs::Space::zones_part))]
 fn put_zones(text: &mut Text, told: &Told, view: &View, tiles: &[Tile])
     ensures { text.new ≡ text.old ++ model.zones_part told.now.lines.now told.now.job.now view.now tiles.now }
 {
-    for zone in &told.job.zones {
-        put_zone(text, told.lines, view, tiles, zone);
-    }
+    put_each_zone(text, told.lines, view, tiles, zones_of(told.job));
 }
 
 /// Writes all labels.

@@ -10,7 +10,7 @@ use input_lines::{Lines, block_number};
 use job_types::{Job, ZoneLine};
 use picture_views::{Tile, Track, along, put_shown};
 use sync_types::PlaceName;
-use told_places::{Told, program_name};
+use told_places::{Told, program_name, say_channel};
 
 /// Writes the number of a block, if it has one.
 #[tactic(auto, unfolding(told_places::specs::Lines::number_text))]
@@ -71,8 +71,8 @@ fn put_holder(text: &mut Text, holder: Option<ChannelId>)
 {
     match holder {
         Some(channel) => {
-            text.say(" of channel ");
-            text.number(u64::from(channel.number));
+            text.say(" of ");
+            say_channel(text, channel);
         }
         None => text.say(" held by nobody"),
     }
