@@ -191,12 +191,16 @@ is_raced (No left right) moment = false
 is_raced Yes moment = false
 
 -- the radius of a ring
-abbrev pub ring_radius : Lanes → ℤ
+unfoldable pub ring_radius : Lanes → ℤ
 ring_radius lanes = times (int_div lanes.letter (pos 5)) (pos 3)
+
+-- where a ring stands, with its size
+unfoldable pub hoop_text : Lanes → ℤ × ℤ → List ℕ
+hoop_text lanes at = round_text at (ring_radius lanes)
 
 -- a red ring around a point
 unfoldable pub ring_text : Lanes → ℤ × ℤ → List ℕ
-ring_text lanes at = codes "<circle class=\"bad\"" ++ round_text at (ring_radius lanes)
+ring_text lanes at = codes "<circle class=\"bad\"" ++ hoop_text lanes at
 
 -- around a place of a race
 unfoldable pub raced_text : Verdict → Lanes → Moment → List ℕ

@@ -214,10 +214,19 @@ impl Lanes {
     }
 
     /// The radius of a ring.
+    #[tactic(auto, unfolding(crate::specs::Times::ring_radius))]
     fn ring_radius(&self) -> i64
         ensures { result ≡ model.ring_radius self.now }
     {
         (self.letter / 5).saturating_mul(3)
+    }
+
+    /// Writes where a ring stands and how large it is.
+    #[tactic(auto, unfolding(crate::specs::Times::hoop_text))]
+    fn put_hoop(&self, text: &mut Text, at: (i64, i64))
+        ensures { text.new ≡ text.old ++ model.hoop_text self.now at }
+    {
+        put_round(text, at, self.ring_radius());
     }
 
     /// Writes a red ring around a point.
@@ -226,7 +235,7 @@ impl Lanes {
         ensures { text.new ≡ text.old ++ model.ring_text self.now at }
     {
         text.say("<circle class=\"bad\"");
-        put_round(text, at, self.ring_radius());
+        self.put_hoop(text, at);
     }
 
     /// Writes a ring around a place of a race.

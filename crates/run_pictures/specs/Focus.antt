@@ -18,7 +18,7 @@ pub record SceneView : Type 0 where
   pub focus : Option Meeting
 
 -- what a scene of the code is made of
-abbrev pub view_of : Scene → SceneView
+unfoldable pub view_of : Scene → SceneView
 view_of scene = record {
   job = scene.job.now;
   run = scene.run.now;

@@ -1,5 +1,5 @@
 -- Meaning. The two boxes that the verdict names, in red.
-use Rattle.std.specs.Prelude.{◌==◌, true, false, List, [], ◌∷◌, ◌++◌, find, Option, None, Some}
+use Rattle.std.specs.Prelude.{◌==◌, Bool, true, false, List, [], ◌∷◌, ◌++◌, find, Option, None, Some}
 use Rattle.std.specs.Option.{is_some, option_map_or}
 use Rattle.job_types.specs.Job.{JobView}
 use Rattle.protection_zones.specs.Pieces.{piece_boxes}
@@ -7,17 +7,20 @@ use Rattle.protection_zones.specs.declared.stretches.ZoneBox.{ZoneBox}
 use Rattle.picture_views.specs.declared.shapes.Look.{Look}
 use Rattle.picture_views.specs.declared.shapes.Look.TheVariants.{First, Second}
 use Rattle.picture_views.specs.declared.shapes.Tile.{Tile}
-use Rattle.run_pictures.specs.Boxes.{in_piece}
 use Rattle.run_pictures.specs.Focus.{stretch_of}
 use Rattle.swept_boxes.specs.declared.Box3.{Box3}
 use Rattle.sync_types.specs.Views.{RunView}
 use Rattle.told_places.specs.declared.place.Meeting.{Meeting}
 use Rattle.told_places.specs.declared.place.Place.{Place}
 
--- a box in pieces, of which the first alone is labelled as the box is
-abbrev pub labelled : Tile → List Box3 → List Tile
-labelled tile [] = []
-labelled tile (piece ∷ pieces) = in_piece tile piece ∷ labelled (record tile { is_labelled = false }) pieces
+-- a piece of a box, labelled or not
+abbrev pub named_piece : Bool → Tile → Box3 → Tile
+named_piece marked tile piece = record tile { space = piece; is_labelled = marked }
+
+-- a box in pieces, of which this one is labelled or not, and no later one is
+abbrev pub labelled : Bool → Tile → List Box3 → List Tile
+labelled marked tile [] = []
+labelled marked tile (piece ∷ pieces) = named_piece marked tile piece ∷ labelled false tile pieces
 
 -- the box of a place, in this look and with its name
 abbrev pub named_tile : Look → Place → Tile
@@ -30,7 +33,7 @@ box_of place = record { line = place.name.line; motion = place.motion; from = pl
 -- a named box by its pieces, the first with its name
 unfoldable pub tiles_of_place : JobView → RunView → Look → Place → List Tile
 tiles_of_place job run look place =
-    option_map_or (λ zone. labelled (named_tile look place) (piece_boxes job run (record { zone = zone; stretch = stretch_of place; box = box_of place })))
+    option_map_or (λ zone. labelled true (named_tile look place) (piece_boxes job run (record { zone = zone; stretch = stretch_of place; box = box_of place })))
     (find (λ line. line.zone == place.name.zone) job.zones) []
 
 -- both of them

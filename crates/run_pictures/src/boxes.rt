@@ -41,7 +41,7 @@ fn tile_of(stretch: &Stretch, own: &ZoneBox, pale: bool) -> Tile
 }
 
 /// A piece of a box.
-pub(crate) fn in_piece(tile: &Tile, piece: &Box3) -> Tile
+fn in_piece(tile: &Tile, piece: &Box3) -> Tile
     ensures { result ≡ model.in_piece tile.now piece.now }
 {
     let mut part = *tile;
@@ -86,6 +86,7 @@ fn add_box(
 }
 
 /// Adds the boxes of a stretch, pale where it is apart in time from what is looked at.
+#[tactic(auto, unfolding(crate::specs::Focus::view_of))]
 fn add_stretch(
     tiles: &mut Vec<Tile>,
     limit: usize,
@@ -135,7 +136,7 @@ pub(crate) fn stretches_at(stretches: &Stretches, place: usize) -> &[Stretch]
 }
 
 /// Adds the boxes of the zone of this place.
-#[tactic(auto, unfolding(crate::specs::Boxes::tiles_of_zone))]
+#[tactic(auto, unfolding(crate::specs::Boxes::tiles_of_zone, crate::specs::Focus::view_of))]
 fn add_zone(
     tiles: &mut Vec<Tile>,
     limit: usize,
@@ -160,7 +161,7 @@ fn add_zone(
 }
 
 /// Adds the boxes of all zones, while there is room.
-#[tactic(auto, unfolding(crate::specs::Boxes::all_tiles))]
+#[tactic(auto, unfolding(crate::specs::Boxes::all_tiles, crate::specs::Focus::view_of))]
 pub(crate) fn add_zones(
     tiles: &mut Vec<Tile>,
     limit: usize,
@@ -171,7 +172,8 @@ pub(crate) fn add_zones(
     ensures { IfOk result (λ _. take limit tiles.new.items
         ≡ take limit (tiles.old.items ++ model.all_tiles (view_of scene.now))) }
 {
-    for place in 0..scene.stretches.zones.len() {
+    let stretches = scene.stretches;
+    for place in 0..stretches.zones.len() {
         add_zone(tiles, limit, scene, place)?;
     }
     Ok(())

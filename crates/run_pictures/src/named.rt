@@ -1,11 +1,11 @@
 //! The two boxes that the verdict names, in red.
-ghost use Rattle.std.specs.Prelude.{◌≡◌, ◌≤◌, ◌++◌, ◌==◌, All, IfOk, find, option_copied};
+ghost use Rattle.std.specs.Prelude.{◌≡◌, ◌≤◌, ◌++◌, ◌==◌, true, All, IfOk, find, option_copied};
 ghost use Rattle.job_lines.specs.declared.limits.TheConstants.{DEPTH_LIMIT};
 ghost use Rattle.protection_zones.specs.ZoneBoxes.{IsFit};
 ghost use Rattle.run_pictures.specs.Focus.{stretch_of};
 ghost use Rattle.run_pictures.specs.Named as model;
 
-use crate::boxes::in_piece;
+use crate::kept::add;
 use axis_sets::ZoneId;
 use job_types::{Job, ZoneLine};
 use out_of_memory::NoMemory;
@@ -16,14 +16,24 @@ use swept_boxes::Box3;
 use sync_types::Run;
 use told_places::{Meeting, Place};
 
-/// Adds a box by these pieces, of which the first alone is labelled as the box is.
-fn add_pieces(tiles: &mut Vec<Tile>, pieces: &[Box3], tile: Tile) -> Result<(), NoMemory>
-    ensures { IfOk result (λ _. tiles.new.items ≡ tiles.old.items ++ model.labelled tile pieces.now) }
+/// A piece of a box, labelled or not.
+fn named_piece(tile: &Tile, piece: &Box3, marked: bool) -> Tile
+    ensures { result ≡ model.named_piece marked tile.now piece.now }
 {
-    let mut next = tile;
+    let mut part = *tile;
+    part.space = *piece;
+    part.is_labelled = marked;
+    part
+}
+
+/// Adds a box by these pieces, of which the first alone is labelled.
+fn add_pieces(tiles: &mut Vec<Tile>, pieces: &[Box3], tile: &Tile) -> Result<(), NoMemory>
+    ensures { IfOk result (λ _. tiles.new.items ≡ tiles.old.items ++ model.labelled true tile.now pieces.now) }
+{
+    let mut marked = true;
     for piece in pieces {
-        tiles.push(in_piece(&next, piece))?;
-        next.is_labelled = false;
+        add(tiles, named_piece(tile, piece, marked))?;
+        marked = false;
     }
     Ok(())
 }
@@ -94,7 +104,7 @@ fn add_place(
         Some(zone) => {
             let stretch = stretch_of(alloc, place);
             let pieces = boxes_by_pieces(job, run, zone, &stretch, &box_of(place));
-            add_pieces(tiles, pieces.as_slice(), named_tile(place, look))
+            add_pieces(tiles, pieces.as_slice(), &named_tile(place, look))
         }
         None => Ok(()),
     }

@@ -87,7 +87,8 @@ pub fn picture_of(
 {
     let (mut tiles, few_tiles) = first_tiles(alloc, scene)?;
     let (tracks, few_tracks) = first_tracks(alloc, scene)?;
-    let (moments, few_moments) = first_moments(alloc, scene.run.entries.as_slice())?;
+    let run = scene.run;
+    let (moments, few_moments) = first_moments(alloc, run.entries.as_slice())?;
     add_named(alloc, &mut tiles, scene.job, scene.run, first)?;
     Ok(Picture {
         tiles,

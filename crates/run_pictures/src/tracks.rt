@@ -195,6 +195,7 @@ fn add_box(
 }
 
 /// Adds the ways of a stretch, pale where it is apart in time from what is looked at.
+#[tactic(auto, unfolding(crate::specs::Focus::view_of))]
 fn add_stretch(
     tracks: &mut Vec<Track>,
     limit: usize,
@@ -230,7 +231,7 @@ fn add_stretches(
 }
 
 /// Adds the ways of the zone of this place.
-#[tactic(auto, unfolding(crate::specs::Tracks::tracks_of_zone))]
+#[tactic(auto, unfolding(crate::specs::Tracks::tracks_of_zone, crate::specs::Focus::view_of))]
 fn add_zone(
     tracks: &mut Vec<Track>,
     limit: usize,
@@ -253,7 +254,7 @@ fn add_zone(
 }
 
 /// Adds the ways of all zones, while there is room.
-#[tactic(auto, unfolding(crate::specs::Tracks::all_tracks))]
+#[tactic(auto, unfolding(crate::specs::Tracks::all_tracks, crate::specs::Focus::view_of))]
 pub(crate) fn add_zones(
     tracks: &mut Vec<Track>,
     limit: usize,
@@ -262,7 +263,8 @@ pub(crate) fn add_zones(
     ensures { IfOk result (λ _. take limit tracks.new.items
         ≡ take limit (tracks.old.items ++ model.all_tracks (view_of scene.now))) }
 {
-    for place in 0..scene.stretches.zones.len() {
+    let stretches = scene.stretches;
+    for place in 0..stretches.zones.len() {
         add_zone(tracks, limit, scene, place)?;
     }
     Ok(())

@@ -4,4 +4,4 @@ use Rattle.run_drawing.proofs.times.Lanes.put_ring.Goals as goal
 
 pub returns : goal.returns
 unfolding ring_text
-returns c = two _ _ _ _ _ c.say.ensures (rw c.ring_radius.ensures at c.put_round.ensures)
+returns c = two _ _ _ _ _ c.say.ensures c.put_hoop.ensures
