@@ -82,13 +82,7 @@ fn nearer(one: Near, other: Option<Near>) -> Near
     ensures { result ≡ focus.nearer one other }
 {
     match other {
-        Some(other) => {
-            if other.reach < one.reach {
-                one
-            } else {
-                other
-            }
-        }
+        Some(other) => { if other.reach < one.reach { one } else { other } }
         None => one,
     }
 }

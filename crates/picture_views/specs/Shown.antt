@@ -1,5 +1,5 @@
 -- Meaning. Texts of the input in a drawing: what stands between the tags of XML.
-use Rattle.std.specs.Prelude.{ℕ, ◌==◌, nat_lt, List, ◌++◌, if◌then◌else◌, flat_map, codes, [], ◌∷◌}
+use Rattle.std.specs.Prelude.{ℕ, ◌==◌, nat_lt, List, if◌then◌else◌, flat_map, codes, [], ◌∷◌}
 use Rattle.std.specs.Str.{is_utf8}
 
 -- a byte of a text: what would begin a tag or an entity by its name, and a blank for what no such text may have

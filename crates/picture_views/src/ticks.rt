@@ -83,8 +83,7 @@ impl View {
     fn tick_at(&self, number: u32) -> i64
         ensures { result ≡ model.tick_at self.now number }
     {
-        step_of(self.letter)
-            .saturating_mul(i64::from(number).saturating_sub(i64::from(TICK_LIMIT)))
+        step_of(self.letter).saturating_mul(i64::from(number).saturating_sub(i64::from(TICK_LIMIT)))
     }
 
     /// Where the number of an upright line stands.

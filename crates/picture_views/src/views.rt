@@ -4,7 +4,8 @@ ghost use Rattle.picture_views.specs.Views.{first_track_of, large_flag, sweep_fl
 
 use crate::extents::{Extent, along, bounds_of, extent_of};
 use crate::marks::{
-    length_of, pale_class, put_box, put_ends, put_look, put_number, put_place, put_point_class, put_round,
+    length_of, pale_class, put_box, put_ends, put_look, put_number, put_place, put_point_class,
+    put_round,
 };
 use crate::shapes::{Look, Picture, Tile, Track, Turn};
 use crate::turns::{is_clockwise, is_in_plane, is_large, opposite};

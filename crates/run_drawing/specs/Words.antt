@@ -1,5 +1,5 @@
 -- Meaning. The words of a drawing: what a reader of it is told of boxes, ways and blocks.
-use Rattle.std.specs.Prelude.{ℕ, ℤ, pos, ◌+◌, ◌==◌, Bool, List, [], ◌∷◌, ◌++◌, if◌then◌else◌, drop, find, Option, None, Some, codes}
+use Rattle.std.specs.Prelude.{ℕ, ℤ, ◌+◌, ◌==◌, Bool, List, [], ◌∷◌, ◌++◌, if◌then◌else◌, drop, find, Option, None, Some, codes}
 use Rattle.std.specs.Fmt.{decimal}
 use Rattle.std.specs.List.{position}
 use Rattle.std.specs.Option.{option_map_or}

@@ -8,9 +8,7 @@ use crate::times::Lanes;
 use crate::titles::put_title;
 use growing_text::Text;
 use out_of_memory::NoMemory;
-use picture_views::{
-    Picture, View, extent_of, has_motion, put_attribute, put_number, put_size,
-};
+use picture_views::{Picture, View, extent_of, has_motion, put_attribute, put_number, put_size};
 use std::alloc::Global;
 use sync_types::Verdict;
 use told_places::Told;
@@ -255,13 +253,7 @@ fn put_end(text: &mut Text, picture: &Picture)
 
 /// Writes the title of a picture: the verdict in these words, and what it names.
 #[tactic(auto, unfolding(crate::specs::Drawing::title_part))]
-fn put_title_part(
-    text: &mut Text,
-    told: &Told,
-    title: &[u8],
-    verdict: &Verdict,
-    picture: &Picture,
-)
+fn put_title_part(text: &mut Text, told: &Told, title: &[u8], verdict: &Verdict, picture: &Picture)
     ensures { text.new ≡ text.old
         ++ model.title_part told.now.lines.now told.now.job.now title.now verdict.now picture.now }
 {

@@ -316,7 +316,11 @@ impl Lanes {
         ensures { text.new ≡ text.old ++ model.ends_part verdict.now self.now picture.now }
     {
         if is_stop(verdict) && !picture.is_cut {
-            self.put_each_end(text, picture.moments.as_slice(), picture.channels.as_slice());
+            self.put_each_end(
+                text,
+                picture.moments.as_slice(),
+                picture.channels.as_slice(),
+            );
         }
     }
 

@@ -82,7 +82,12 @@ fn add_box(
         ++ model.tiles_of_box scene.now.job.now scene.now.run.now pale zone.now stretch.now own.now)) }
 {
     let pieces = boxes_by_pieces(scene.job, scene.run, zone, stretch, own);
-    add_pieces(tiles, limit, pieces.as_slice(), &tile_of(stretch, own, pale))
+    add_pieces(
+        tiles,
+        limit,
+        pieces.as_slice(),
+        &tile_of(stretch, own, pale),
+    )
 }
 
 /// Adds the boxes of a stretch, pale where it is apart in time from what is looked at.
@@ -162,11 +167,7 @@ fn add_zone(
 
 /// Adds the boxes of all zones, while there is room.
 #[tactic(auto, unfolding(crate::specs::Boxes::all_tiles, crate::specs::Focus::view_of))]
-pub(crate) fn add_zones(
-    tiles: &mut Vec<Tile>,
-    limit: usize,
-    scene: &Scene,
-) -> Result<(), NoMemory>
+pub(crate) fn add_zones(tiles: &mut Vec<Tile>, limit: usize, scene: &Scene) -> Result<(), NoMemory>
     requires fit { All (All IsFit) scene.now.run.now.items }
     requires deep { scene.now.job.now.depth ≤ DEPTH_LIMIT }
     ensures { IfOk result (λ _. take limit tiles.new.items
