@@ -122,7 +122,8 @@ fn add_stretches(
     requires fit { All (All IsFit) scene.now.run.now.items }
     requires deep { scene.now.job.now.depth ≤ DEPTH_LIMIT }
     ensures { IfOk result (λ _. take limit tiles.new.items
-        ≡ take limit (tiles.old.items ++ flat_map (model.tiles_of_stretch (view_of scene.now) zone.now) stretches.now)) }
+        ≡ take limit (tiles.old.items
+        ++ flat_map (model.tiles_of_stretch (view_of scene.now) zone.now) stretches.now)) }
 {
     for stretch in stretches {
         add_stretch(tiles, limit, scene, zone, stretch)?;

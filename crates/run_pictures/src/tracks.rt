@@ -222,7 +222,8 @@ fn add_stretches(
     stretches: &[Stretch],
 ) -> Result<(), NoMemory>
     ensures { IfOk result (λ _. take limit tracks.new.items
-        ≡ take limit (tracks.old.items ++ flat_map (model.tracks_of_stretch (view_of scene.now) zone.now) stretches.now)) }
+        ≡ take limit (tracks.old.items
+        ++ flat_map (model.tracks_of_stretch (view_of scene.now) zone.now) stretches.now)) }
 {
     for stretch in stretches {
         add_stretch(tracks, limit, scene, zone, stretch)?;
