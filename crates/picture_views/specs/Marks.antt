@@ -1,5 +1,5 @@
 -- Meaning. What a drawing is made of: whole numbers, attributes, and the ends of elements.
-use Rattle.std.specs.Prelude.{ℕ, ℤ, pos, negsuc, suc, ◌+ℤ◌, ◌-ℤ◌, ◌*ℤ◌, List, ◌++◌, if◌then◌else◌, slice_get, int_lt, codes}
+use Rattle.std.specs.Prelude.{ℕ, ℤ, pos, negsuc, suc, ◌+ℤ◌, ◌-ℤ◌, ◌*ℤ◌, Bool, List, [], ◌++◌, if◌then◌else◌, slice_get, int_lt, codes}
 use Rattle.std.specs.Int.{w64, saturate_signed}
 use Rattle.std.specs.Option.{unwrap_or}
 use Rattle.std.specs.Fmt.{decimal}
@@ -64,16 +64,16 @@ along at direction = unwrap_or (slice_get at direction) (pos 0)
 unfoldable pub length_of : ℤ → ℤ → ℤ
 length_of low high = if int_lt (minus high low) (pos 0) then pos 0 else minus high low
 
+-- the class of what is pale, before others
+abbrev pub pale_class : Bool → List ℕ
+pale_class pale = if pale then codes "p " else []
+
 -- the class of a box
 unfoldable pub look_text : Look → List ℕ
 look_text (Held channel) = codes "b c" ++ decimal channel
 look_text Free = codes "free"
 look_text First = codes "red"
 look_text Second = codes "red"
-
--- the number of a line, with the end of the text
-unfoldable pub line_text : ℕ → List ℕ
-line_text line = codes "line " ++ (decimal line ++ codes "</text>\n")
 
 -- a point in the colour of a channel begins
 unfoldable pub class_text : ℕ → List ℕ

@@ -1,4 +1,4 @@
--- Meaning. What a view shows of boxes, ways and axes.
+-- Meaning. How a view shows boxes, ways and axes.
 use Rattle.std.specs.Prelude.{ℕ, ℤ, pos, ◌==◌, Bool, false, List, [], ◌++◌, if◌then◌else◌, Option, find, flat_map, int_div, codes}
 use Rattle.std.specs.Option.{option_map_or}
 use Rattle.std.specs.Fmt.{decimal}
@@ -11,13 +11,13 @@ use Rattle.picture_views.specs.declared.shapes.Turn.{Turn}
 use Rattle.picture_views.specs.declared.views.View.{View}
 use Rattle.picture_views.specs.Extents.{extent_of}
 use Rattle.picture_views.specs.Extents.{length_of as extent_length}
-use Rattle.picture_views.specs.Marks.{along, box_text, class_text, ends_text, length_of, line_text, look_text, minus, number_text, place_text, plus, round_text, times}
+use Rattle.picture_views.specs.Marks.{along, box_text, class_text, ends_text, length_of, look_text, minus, number_text, pale_class, place_text, plus, round_text, times}
 use Rattle.picture_views.specs.Turns.{is_clockwise, is_in_plane, is_large, opposite}
 
--- the view of a picture over Z, two letters from the left edge of the drawing
+-- the view of a picture over Z, four letters from the left edge of the drawing
 unfoldable pub view_of : Picture → ℕ → ℤ → ℤ → View
 view_of picture up top letter =
-    record { across = 2; up = up; wide = extent_of picture 2; tall = extent_of picture up; left = times letter (pos 2); top = top; letter = letter }
+    record { across = 2; up = up; wide = extent_of picture 2; tall = extent_of picture up; left = times letter (pos 4); top = top; letter = letter }
 
 -- where its right and its lower edge stand
 abbrev pub right_of : View → ℤ
@@ -46,9 +46,10 @@ size_of view tile = (length_of (along tile.space.lo view.across) (along tile.spa
 
 -- a box from its upper left corner on, as far as it reaches
 unfoldable pub tile_text : View → Tile → List ℕ
-tile_text view tile = codes "<rect class=\"" ++ (look_text tile.look ++ (codes "\"" ++ box_text (corner_of view tile) (size_of view tile)))
+tile_text view tile =
+    codes "<rect class=\"" ++ (pale_class tile.is_pale ++ (look_text tile.look ++ (codes "\"" ++ box_text (corner_of view tile) (size_of view tile))))
 
--- how far below the upper edge of a box its line stands: near the lower edge in the second of two
+-- how far below the upper edge of a box its name stands: near the lower edge in the second of two
 abbrev pub depth_by : Look → ℤ → ℤ → ℤ
 depth_by (Held channel) height letter = letter
 depth_by Free height letter = letter
@@ -58,17 +59,9 @@ depth_by Second height letter = minus height (int_div letter (pos 3))
 unfoldable pub label_depth : View → Tile → ℤ
 label_depth view tile = depth_by tile.look (size_of view tile).1 view.letter
 
--- where the line of a box stands
+-- where the name of a box stands
 unfoldable pub label_place : View → Tile → ℤ × ℤ
 label_place view tile = (plus (corner_of view tile).0 (int_div view.letter (pos 3)), plus (corner_of view tile).1 (label_depth view tile))
-
--- the line of a box
-unfoldable pub line_label : View → Tile → List ℕ
-line_label view tile = codes "<text class=\"named\"" ++ (place_text (label_place view tile) ++ line_text tile.label)
-
--- if it is labelled
-unfoldable pub label_text : View → Tile → List ℕ
-label_text view tile = if tile.label == 0 then [] else line_label view tile
 
 -- a straight way to a place
 unfoldable pub straight_text : View → List ℤ → List ℕ
@@ -103,9 +96,17 @@ bent_text view turn track = if is_in_plane turn view.across view.up then turn_te
 unfoldable pub way_text : View → Track → List ℕ
 way_text view track = option_map_or (λ turn. bent_text view turn track) track.turn (straight_text view track.to)
 
--- where it starts, in the colour of its channel
+-- the class of a way: one in which each axis goes by itself has a class of its own
+abbrev pub way_class : Bool → List ℕ
+way_class rapid = if rapid then codes "t r d" else codes "t d"
+
+-- its classes, the last of them the colour of its channel
+unfoldable pub way_colour : Track → List ℕ
+way_colour track = codes "<path class=\"" ++ (pale_class track.is_pale ++ (way_class track.is_rapid ++ decimal track.channel))
+
+-- where it starts
 unfoldable pub way_start : View → Track → List ℕ
-way_start view track = codes "<path class=\"t d" ++ (decimal track.channel ++ (codes "\" d=\"M " ++ point_text view track.from))
+way_start view track = way_colour track ++ (codes "\" d=\"M " ++ point_text view track.from)
 
 -- a way
 unfoldable pub track_text : View → Track → List ℕ
@@ -162,21 +163,17 @@ up_place view = (x_of view (pos 0), minus view.top (int_div view.letter (pos 3))
 
 -- the name of the direction upwards, with the end of its text
 abbrev pub up_name : ℕ → List ℕ
-up_name up = if up == 1 then codes "Y</text>\n" else codes "X</text>\n"
+up_name up = if up == 1 then codes "Y mm</text>\n" else codes "X mm</text>\n"
 
 -- both names
 unfoldable pub names_text : View → List ℕ
 names_text view =
-    codes "<text" ++ (place_text (across_place view) ++ (codes "Z</text>\n<text class=\"mid\"" ++ (place_text (up_place view) ++ up_name view.up)))
+    codes "<text" ++ (place_text (across_place view) ++ (codes "Z mm</text>\n<text class=\"mid\"" ++ (place_text (up_place view) ++ up_name view.up)))
 
--- the boxes, and the lines on which the directions are 0
-unfoldable pub ground_text : View → Picture → List ℕ
-ground_text view picture = flat_map (tile_text view) picture.tiles.items ++ (rules_text view ++ names_text view)
+-- the lines on which the directions are 0, with their names
+unfoldable pub axes_text : View → List ℕ
+axes_text view = rules_text view ++ names_text view
 
--- what a view shows: the boxes, over them the ways with their starts, and over all the lines of the boxes
-unfoldable pub view_text : View → Picture → List ℕ
-view_text view picture =
-    ground_text view picture
-    ++ (flat_map (track_text view) picture.tracks.items
-    ++ (flat_map (first_start view picture.tracks.items) picture.channels.items
-    ++ flat_map (label_text view) picture.tiles.items))
+-- the first places of these channels
+unfoldable pub starts_text : View → List Track → List ℕ → List ℕ
+starts_text view tracks channels = flat_map (first_start view tracks) channels

@@ -61,7 +61,7 @@ fn bound(bounds: &[i32; 3], direction: usize) -> i64
 
 /// A place along a direction.
 #[tactic(auto, unfolding(crate::specs::Marks::along))]
-pub(crate) fn along(at: &[i64; 3], direction: usize) -> i64
+pub fn along(at: &[i64; 3], direction: usize) -> i64
     ensures { result ≡ along at.now direction }
 {
     match at.as_slice().get(direction) {

@@ -113,6 +113,13 @@ pub(crate) fn length_of(low: i64, high: i64) -> i64
     if length < 0 { 0 } else { length }
 }
 
+/// The class of what is pale, before others.
+pub(crate) fn pale_class(pale: bool) -> &'static str
+    ensures { result.now ≡ model.pale_class pale }
+{
+    if pale { "p " } else { "" }
+}
+
 /// Writes the class of a box.
 #[tactic(auto, unfolding(crate::specs::Marks::look_text))]
 pub(crate) fn put_look(text: &mut Text, look: Look)
@@ -126,16 +133,6 @@ pub(crate) fn put_look(text: &mut Text, look: Look)
         Look::Free => text.say("free"),
         Look::First | Look::Second => text.say("red"),
     }
-}
-
-/// Writes the number of a line, and ends the text.
-#[tactic(auto, unfolding(crate::specs::Marks::line_text))]
-pub(crate) fn put_line_number(text: &mut Text, line: u32)
-    ensures { text.new ≡ text.old ++ model.line_text line }
-{
-    text.say("line ");
-    text.number(u64::from(line));
-    text.say("</text>\n");
 }
 
 /// Begins a point in the colour of a channel.

@@ -1,5 +1,6 @@
 //! What a drawing shows, in micrometres in the three directions of space.
 use swept_boxes::Box3;
+use sync_types::PlaceName;
 
 /// How a box is drawn.
 #[derive(Clone, Copy)]
@@ -8,9 +9,9 @@ pub enum Look {
     Held(u8),
     /// As one that nobody holds: hatched.
     Free,
-    /// As the first of the two that the verdict names: in red, with its line in its upper left corner.
+    /// As the first of the two that the verdict names: in red, named in its upper left corner.
     First,
-    /// As the second of them: in red, with its line in its lower left corner.
+    /// As the second of them: in red, named in its lower left corner.
     Second,
 }
 
@@ -21,8 +22,14 @@ pub struct Tile {
     pub space: Box3,
     /// How it is drawn.
     pub look: Look,
-    /// The line that it is labelled with; 0 for none.
-    pub label: u32,
+    /// Its zone, the channel that holds it, what that does, and the line of its block; 0 where it has none.
+    pub name: PlaceName,
+    /// Whether its zone moves in it.
+    pub moves: bool,
+    /// Whether its name is written into it.
+    pub is_labelled: bool,
+    /// Whether it is apart in time from what is looked at.
+    pub is_pale: bool,
 }
 
 /// How a track turns.
@@ -45,6 +52,14 @@ pub struct Turn {
 pub struct Track {
     /// The number of its channel.
     pub channel: u8,
+    /// The number of its zone.
+    pub zone: u8,
+    /// The line of its block.
+    pub line: u32,
+    /// Whether each axis goes by itself.
+    pub is_rapid: bool,
+    /// Whether it is apart in time from what is looked at.
+    pub is_pale: bool,
     /// Where it begins.
     pub from: [i64; 3],
     /// Where it ends.
@@ -81,6 +96,17 @@ pub struct Moment {
     pub deed: Deed,
 }
 
+/// The time of a zone in which a box lies that the verdict names.
+#[derive(Clone, Copy)]
+pub struct Span {
+    /// How the box is named.
+    pub name: PlaceName,
+    /// The step with which the time begins; none where it begins with the job.
+    pub first: Option<u32>,
+    /// The step with which it ends; none where it lasts.
+    pub last: Option<u32>,
+}
+
 /// A picture of a run.
 #[derive(Drop)]
 pub struct Picture {
@@ -90,6 +116,8 @@ pub struct Picture {
     pub tracks: Vec<Track>,
     /// What the channels do in each step, in order.
     pub moments: Vec<Moment>,
+    /// The times of the two boxes that the verdict names, if it names any.
+    pub spans: Vec<Span>,
     /// The numbers of the channels, ascending: 1 to 8.
     pub channels: Vec<u8>,
     /// Whether something was left out since there is too much of it.

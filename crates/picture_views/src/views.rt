@@ -1,11 +1,11 @@
 //! A view of a picture: one direction of space upwards over another across.
-ghost use Rattle.std.specs.Prelude.{◌≡◌, ◌++◌, flat_map, option_copied};
-ghost use Rattle.picture_views.specs.Views.{first_track_of, large_flag, sweep_flag, up_name};
+ghost use Rattle.std.specs.Prelude.{◌≡◌, ◌++◌, option_copied};
+ghost use Rattle.picture_views.specs.Views.{first_track_of, large_flag, sweep_flag, up_name, way_class, way_colour};
 
 use crate::extents::{Extent, along, bounds_of, extent_of};
 use crate::marks::{
-    length_of, put_box, put_ends, put_line_number, put_look, put_number, put_place,
-    put_point_class, put_round,
+    length_of, pale_class, put_box, put_ends, put_look, put_number, put_place, put_point_class,
+    put_round,
 };
 use crate::shapes::{Look, Picture, Tile, Track, Turn};
 use crate::turns::{is_clockwise, is_in_plane, is_large, opposite};
@@ -33,7 +33,7 @@ pub struct View {
 impl View {
     ghost use Rattle.picture_views.specs.Views as model;
 
-    /// The view of a picture over Z whose left edge is two letters from that of the drawing.
+    /// The view of a picture over Z whose left edge is four letters from that of the drawing.
     #[tactic(auto, unfolding(crate::specs::Views::view_of))]
     pub fn of(picture: &Picture, up: usize, top: i64, letter: i64) -> View
         ensures { result ≡ model.view_of picture.now up top letter }
@@ -43,7 +43,7 @@ impl View {
             up,
             wide: extent_of(picture, 2),
             tall: extent_of(picture, up),
-            left: letter.saturating_mul(2),
+            left: letter.saturating_mul(4),
             top,
             letter,
         }
@@ -65,7 +65,7 @@ impl View {
 
     /// The place of the drawing across.
     #[tactic(auto, unfolding(crate::specs::Views::x_of))]
-    fn x(&self, place: i64) -> i64
+    pub(crate) fn x(&self, place: i64) -> i64
         ensures { result ≡ model.x_of self.now place }
     {
         self.left
@@ -74,7 +74,7 @@ impl View {
 
     /// The place of the drawing downwards.
     #[tactic(auto, unfolding(crate::specs::Views::y_of))]
-    fn y(&self, place: i64) -> i64
+    pub(crate) fn y(&self, place: i64) -> i64
         ensures { result ≡ model.y_of self.now place }
     {
         self.top
@@ -113,25 +113,17 @@ impl View {
 
     /// Writes a box from its upper left corner on, as far as it reaches.
     #[tactic(auto, unfolding(crate::specs::Views::tile_text))]
-    fn put_tile(&self, text: &mut Text, tile: &Tile)
+    pub fn put_tile(&self, text: &mut Text, tile: &Tile)
         ensures { text.new ≡ text.old ++ model.tile_text self.now tile.now }
     {
         text.say("<rect class=\"");
+        text.say(pale_class(tile.is_pale));
         put_look(text, tile.look);
         text.say("\"");
         put_box(text, self.corner_of(tile), self.size_of(tile));
     }
 
-    /// Writes the boxes.
-    fn put_tiles(&self, text: &mut Text, tiles: &[Tile])
-        ensures { text.new ≡ text.old ++ flat_map (model.tile_text self.now) tiles.now }
-    {
-        for tile in tiles {
-            self.put_tile(text, tile);
-        }
-    }
-
-    /// How far below the upper edge of a box its line stands.
+    /// How far below the upper edge of a box its name stands.
     #[tactic(auto, unfolding(crate::specs::Views::label_depth))]
     fn label_depth(&self, tile: &Tile) -> i64
         ensures { result ≡ model.label_depth self.now tile.now }
@@ -142,9 +134,9 @@ impl View {
         }
     }
 
-    /// Where the line of a box stands.
+    /// Where the name of a box stands.
     #[tactic(auto, unfolding(crate::specs::Views::label_place))]
-    fn label_place(&self, tile: &Tile) -> (i64, i64)
+    pub fn label_place(&self, tile: &Tile) -> (i64, i64)
         ensures { result ≡ model.label_place self.now tile.now }
     {
         let corner = self.corner_of(tile);
@@ -152,35 +144,6 @@ impl View {
             corner.0.saturating_add(self.letter / 3),
             corner.1.saturating_add(self.label_depth(tile)),
         )
-    }
-
-    /// Writes the line of a box into one of its left corners.
-    #[tactic(auto, unfolding(crate::specs::Views::line_label))]
-    fn put_line_label(&self, text: &mut Text, tile: &Tile)
-        ensures { text.new ≡ text.old ++ model.line_label self.now tile.now }
-    {
-        text.say("<text class=\"named\"");
-        put_place(text, self.label_place(tile));
-        put_line_number(text, tile.label);
-    }
-
-    /// Writes the line of a box if it is labelled.
-    #[tactic(auto, unfolding(crate::specs::Views::label_text))]
-    fn put_label(&self, text: &mut Text, tile: &Tile)
-        ensures { text.new ≡ text.old ++ model.label_text self.now tile.now }
-    {
-        if tile.label != 0 {
-            self.put_line_label(text, tile);
-        }
-    }
-
-    /// Writes the lines of the boxes that are labelled.
-    fn put_labels(&self, text: &mut Text, tiles: &[Tile])
-        ensures { text.new ≡ text.old ++ flat_map (model.label_text self.now) tiles.now }
-    {
-        for tile in tiles {
-            self.put_label(text, tile);
-        }
     }
 
     /// Writes a straight way to a place.
@@ -258,34 +221,24 @@ impl View {
         }
     }
 
-    /// Writes where a way starts, in the colour of its channel.
+    /// Writes where a way starts.
     #[tactic(auto, unfolding(crate::specs::Views::way_start))]
     fn put_way_start(&self, text: &mut Text, track: &Track)
         ensures { text.new ≡ text.old ++ model.way_start self.now track.now }
     {
-        text.say("<path class=\"t d");
-        text.number(u64::from(track.channel));
+        put_way_colour(text, track);
         text.say("\" d=\"M ");
         self.put_point(text, &track.from);
     }
 
     /// Writes a way.
     #[tactic(auto, unfolding(crate::specs::Views::track_text))]
-    fn put_track(&self, text: &mut Text, track: &Track)
+    pub fn put_track(&self, text: &mut Text, track: &Track)
         ensures { text.new ≡ text.old ++ model.track_text self.now track.now }
     {
         self.put_way_start(text, track);
         self.put_way(text, track);
         text.say("\"/>\n");
-    }
-
-    /// Writes the ways.
-    fn put_tracks(&self, text: &mut Text, tracks: &[Track])
-        ensures { text.new ≡ text.old ++ flat_map (model.track_text self.now) tracks.now }
-    {
-        for track in tracks {
-            self.put_track(text, track);
-        }
     }
 
     /// Where a way begins.
@@ -318,9 +271,10 @@ impl View {
         }
     }
 
-    /// Writes the first place of each channel.
-    fn put_starts(&self, text: &mut Text, tracks: &[Track], channels: &[u8])
-        ensures { text.new ≡ text.old ++ flat_map (model.first_start self.now tracks.now) channels.now }
+    /// Writes the first place of each of these channels.
+    #[tactic(auto, unfolding(crate::specs::Views::starts_text))]
+    pub fn put_starts(&self, text: &mut Text, tracks: &[Track], channels: &[u8])
+        ensures { text.new ≡ text.old ++ model.starts_text self.now tracks.now channels.now }
     {
         for channel in channels {
             self.put_first_start(text, tracks, *channel);
@@ -415,31 +369,18 @@ impl View {
     {
         text.say("<text");
         put_place(text, self.across_place());
-        text.say("Z</text>\n<text class=\"mid\"");
+        text.say("Z mm</text>\n<text class=\"mid\"");
         put_place(text, self.up_place());
         text.say(up_name(self.up));
     }
 
-    /// Writes the boxes, and the lines on which the directions are 0.
-    #[tactic(auto, unfolding(crate::specs::Views::ground_text))]
-    fn put_ground(&self, text: &mut Text, picture: &Picture)
-        ensures { text.new ≡ text.old ++ model.ground_text self.now picture.now }
+    /// Writes the lines on which the directions are 0, with their names.
+    #[tactic(auto, unfolding(crate::specs::Views::axes_text))]
+    pub fn put_axes(&self, text: &mut Text)
+        ensures { text.new ≡ text.old ++ model.axes_text self.now }
     {
-        self.put_tiles(text, picture.tiles.as_slice());
         self.put_rules(text);
         self.put_names(text);
-    }
-
-    /// Writes what the view shows: the boxes, over them the ways with their starts, and over all the lines of the boxes.
-    #[tactic(auto, unfolding(crate::specs::Views::view_text))]
-    pub fn put(&self, text: &mut Text, picture: &Picture)
-        ensures { text.new ≡ text.old ++ model.view_text self.now picture.now }
-    {
-        let tracks = picture.tracks.as_slice();
-        self.put_ground(text, picture);
-        self.put_tracks(text, tracks);
-        self.put_starts(text, tracks, picture.channels.as_slice());
-        self.put_labels(text, picture.tiles.as_slice());
     }
 }
 
@@ -448,6 +389,24 @@ fn first_track(tracks: &[Track], channel: u8) -> Option<&Track>
     ensures { option_copied result ≡ first_track_of tracks.now channel }
 {
     tracks.iter().find(|track| track.channel == channel)
+}
+
+/// The class of a way, up to the number of its channel.
+fn way_class(rapid: bool) -> &'static str
+    ensures { result.now ≡ way_class rapid }
+{
+    if rapid { "t r d" } else { "t d" }
+}
+
+/// Writes the classes of a way, the last of them the colour of its channel.
+#[tactic(auto, unfolding(crate::specs::Views::way_colour))]
+fn put_way_colour(text: &mut Text, track: &Track)
+    ensures { text.new ≡ text.old ++ way_colour track.now }
+{
+    text.say("<path class=\"");
+    text.say(pale_class(track.is_pale));
+    text.say(way_class(track.is_rapid));
+    text.number(u64::from(track.channel));
 }
 
 /// Whether an arc is more than half a circle, as a path says it.
@@ -468,5 +427,9 @@ fn sweep_flag(clockwise: bool) -> &'static str
 fn up_name(up: usize) -> &'static str
     ensures { result.now ≡ up_name up }
 {
-    if up == 1 { "Y</text>\n" } else { "X</text>\n" }
+    if up == 1 {
+        "Y mm</text>\n"
+    } else {
+        "X mm</text>\n"
+    }
 }

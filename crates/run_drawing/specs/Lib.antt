@@ -1,2 +1,5 @@
 pub mod Drawing
+pub mod Space
 pub mod Times
+pub mod Titles
+pub mod Words

@@ -2,14 +2,16 @@
 ghost use Rattle.std.specs.Prelude.{◌≡◌, ◌++◌, IfOk};
 ghost use Rattle.run_drawing.specs.Drawing as model;
 
+use crate::space::put_view;
 use crate::styles::{LEGEND, STYLES};
 use crate::times::Lanes;
+use crate::titles::put_title;
 use growing_text::Text;
 use out_of_memory::NoMemory;
-use picture_views::{
-    Picture, View, extent_of, has_motion, put_attribute, put_ends, put_number, put_place, put_size,
-};
+use picture_views::{Picture, View, extent_of, has_motion, put_attribute, put_number, put_size};
 use std::alloc::Global;
+use sync_types::Verdict;
+use told_places::Told;
 
 /// How wide the views of a picture are, or how tall the first of them is: the greater of both, and 10 millimetres at least.
 #[tactic(auto, unfolding(crate::specs::Drawing::span_of))]
@@ -29,13 +31,13 @@ fn letter_of(picture: &Picture) -> i64
     span_of(picture) / 50
 }
 
-/// X over Z.
+/// X over Z, below the title.
 #[tactic(auto, unfolding(crate::specs::Drawing::first_view))]
 fn first_view(picture: &Picture) -> View
     ensures { result ≡ model.first_view picture.now }
 {
     let letter = letter_of(picture);
-    View::of(picture, 0, letter.saturating_mul(2), letter)
+    View::of(picture, 0, letter.saturating_mul(7), letter)
 }
 
 /// Y over Z, below it.
@@ -45,7 +47,7 @@ fn second_view(picture: &Picture) -> View
 {
     let letter = letter_of(picture);
     let first = first_view(picture);
-    let top = first.bottom().saturating_add(letter.saturating_mul(2));
+    let top = first.bottom().saturating_add(letter.saturating_mul(4));
     View::of(picture, 1, top, letter)
 }
 
@@ -69,12 +71,12 @@ fn below(picture: &Picture, letters: i64) -> i64
     views_end(picture).saturating_add(letter_of(picture).saturating_mul(letters))
 }
 
-/// The lanes, below the scale and the legend.
+/// The lanes, below the legend.
 #[tactic(auto, unfolding(crate::specs::Drawing::lanes_in))]
 fn lanes_in(picture: &Picture) -> Lanes
     ensures { result ≡ model.lanes_in picture.now }
 {
-    Lanes::of(picture, below(picture, 7), letter_of(picture))
+    Lanes::of(picture, below(picture, 8), letter_of(picture))
 }
 
 /// How wide and how tall the drawing is.
@@ -84,7 +86,7 @@ fn page_of(picture: &Picture) -> (i64, i64)
 {
     let letter = letter_of(picture);
     (
-        span_of(picture).saturating_add(letter.saturating_mul(4)),
+        span_of(picture).saturating_add(letter.saturating_mul(8)),
         lanes_in(picture).bottom().saturating_add(letter),
     )
 }
@@ -118,7 +120,7 @@ fn styles() -> &'static str
     STYLES
 }
 
-/// What the points of the lanes are.
+/// What the signs of the drawing are.
 fn legend() -> &'static str
     ensures { result.now ≡ LEGEND.now }
 {
@@ -161,112 +163,13 @@ fn put_head(text: &mut Text, picture: &Picture)
 
 /// Writes the views.
 #[tactic(auto, unfolding(crate::specs::Drawing::views_text))]
-fn put_views(text: &mut Text, picture: &Picture)
-    ensures { text.new ≡ text.old ++ model.views_text picture.now }
+fn put_views(text: &mut Text, told: &Told, picture: &Picture)
+    ensures { text.new ≡ text.old ++ model.views_text told.now.lines.now told.now.job.now picture.now }
 {
-    first_view(picture).put(text, picture);
+    put_view(text, told, &first_view(picture), picture);
     if has_motion(picture, 1) {
-        second_view(picture).put(text, picture);
+        put_view(text, told, &second_view(picture), picture);
     }
-}
-
-/// The length of the scale: the greatest power of ten that is at most a quarter of the width, from 1 millimetre to 1 kilometre.
-#[tactic(auto, unfolding(crate::specs::Drawing::scale_length))]
-fn scale_length(width: i64) -> i64
-    ensures { result ≡ model.scale_length width }
-{
-    if width < 40_000 {
-        1_000
-    } else if width < 400_000 {
-        10_000
-    } else if width < 4_000_000 {
-        100_000
-    } else if width < 40_000_000 {
-        1_000_000
-    } else if width < 400_000_000 {
-        10_000_000
-    } else {
-        100_000_000
-    }
-}
-
-/// The place so far to the right of another.
-#[tactic(auto, unfolding(crate::specs::Drawing::rod_end))]
-fn rod_end(at: (i64, i64), length: i64) -> (i64, i64)
-    ensures { result ≡ model.rod_end at length }
-{
-    (at.0.saturating_add(length), at.1)
-}
-
-/// Writes a line of a length to the right of a place.
-#[tactic(auto, unfolding(crate::specs::Drawing::rod_text))]
-fn put_rod(text: &mut Text, at: (i64, i64), length: i64)
-    ensures { text.new ≡ text.old ++ model.rod_text at length }
-{
-    text.say("<line class=\"scale\"");
-    put_ends(text, at, rod_end(at, length));
-}
-
-/// A length in whole millimetres.
-fn millimetres_of(length: i64) -> i64
-    ensures { result ≡ model.millimetres_of length }
-{
-    length / 1000
-}
-
-/// Writes a length in whole millimetres.
-#[tactic(auto, unfolding(crate::specs::Drawing::length_text))]
-fn put_length(text: &mut Text, length: i64)
-    ensures { text.new ≡ text.old ++ model.length_text length }
-{
-    put_number(text, millimetres_of(length));
-}
-
-/// Begins a text at a place.
-#[tactic(auto, unfolding(crate::specs::Drawing::text_start))]
-fn put_text_start(text: &mut Text, at: (i64, i64))
-    ensures { text.new ≡ text.old ++ model.text_start at }
-{
-    text.say("<text");
-    put_place(text, at);
-}
-
-/// Writes a length in whole millimetres, and ends the text.
-#[tactic(auto, unfolding(crate::specs::Drawing::text_end))]
-fn put_text_end(text: &mut Text, length: i64)
-    ensures { text.new ≡ text.old ++ model.text_end length }
-{
-    put_length(text, length);
-    text.say(" mm</text>\n");
-}
-
-/// Writes how long the scale is, to the right of a place.
-#[tactic(auto, unfolding(crate::specs::Drawing::measure_text))]
-fn put_measure(text: &mut Text, at: (i64, i64), length: i64)
-    ensures { text.new ≡ text.old ++ model.measure_text at length }
-{
-    put_text_start(text, at);
-    put_text_end(text, length);
-}
-
-/// Where the measure of a scale stands.
-#[tactic(auto, unfolding(crate::specs::Drawing::measure_place))]
-fn measure_place(at: (i64, i64), length: i64, letter: i64) -> (i64, i64)
-    ensures { result ≡ model.measure_place at length letter }
-{
-    (
-        at.0.saturating_add(length).saturating_add(letter / 2),
-        at.1.saturating_add(letter / 3),
-    )
-}
-
-/// Writes the scale at a place.
-#[tactic(auto, unfolding(crate::specs::Drawing::scale_text))]
-fn put_scale(text: &mut Text, at: (i64, i64), length: i64, letter: i64)
-    ensures { text.new ≡ text.old ++ model.scale_text at length letter }
-{
-    put_rod(text, at, length);
-    put_measure(text, measure_place(at, length, letter), length);
 }
 
 /// Writes both numbers of a place.
@@ -279,14 +182,14 @@ fn put_pair(text: &mut Text, at: (i64, i64))
     put_number(text, at.1);
 }
 
-/// Writes what each sign of the lanes is.
+/// Writes what each sign is.
 fn put_signs(text: &mut Text)
     ensures { text.new ≡ text.old ++ LEGEND.now }
 {
     text.say(legend());
 }
 
-/// Writes what the points of the lanes are, from a place on.
+/// Writes what the signs are, from a place on.
 #[tactic(auto, unfolding(crate::specs::Drawing::legend_text))]
 fn put_legend(text: &mut Text, at: (i64, i64))
     ensures { text.new ≡ text.old ++ model.legend_text at }
@@ -308,51 +211,31 @@ fn place_below(picture: &Picture, letters: i64) -> (i64, i64)
     )
 }
 
-/// The length of the scale of a picture.
-#[tactic(auto, unfolding(crate::specs::Drawing::scale_of))]
-fn scale_of(picture: &Picture) -> i64
-    ensures { result ≡ model.scale_of picture.now }
-{
-    scale_length(span_of(picture))
-}
-
-/// Writes the scale of a picture.
-#[tactic(auto, unfolding(crate::specs::Drawing::scale_part))]
-fn put_scale_part(text: &mut Text, picture: &Picture)
-    ensures { text.new ≡ text.old ++ model.scale_part picture.now }
-{
-    put_scale(
-        text,
-        place_below(picture, 2),
-        scale_of(picture),
-        letter_of(picture),
-    );
-}
-
-/// Writes what the points of the lanes of a picture are.
+/// Writes what the signs of a picture are.
 #[tactic(auto, unfolding(crate::specs::Drawing::legend_part))]
 fn put_legend_part(text: &mut Text, picture: &Picture)
     ensures { text.new ≡ text.old ++ model.legend_part picture.now }
 {
-    put_legend(text, place_below(picture, 4));
+    put_legend(text, place_below(picture, 3));
 }
 
 /// Writes the lanes of a picture.
 #[tactic(auto, unfolding(crate::specs::Drawing::lanes_part))]
-fn put_lanes_part(text: &mut Text, picture: &Picture)
-    ensures { text.new ≡ text.old ++ model.lanes_part picture.now }
+fn put_lanes_part(text: &mut Text, told: &Told, verdict: &Verdict, picture: &Picture)
+    ensures { text.new ≡ text.old
+        ++ model.lanes_part told.now.lines.now told.now.job.now verdict.now picture.now }
 {
-    lanes_in(picture).put(text, picture);
+    lanes_in(picture).put(text, told, verdict, picture);
 }
 
-/// Writes what stands below the views: the scale, what the points of the lanes are, and the lanes.
+/// Writes what stands below the views: what its signs are, and the lanes.
 #[tactic(auto, unfolding(crate::specs::Drawing::foot_text))]
-fn put_foot(text: &mut Text, picture: &Picture)
-    ensures { text.new ≡ text.old ++ model.foot_text picture.now }
+fn put_foot(text: &mut Text, told: &Told, verdict: &Verdict, picture: &Picture)
+    ensures { text.new ≡ text.old
+        ++ model.foot_text told.now.lines.now told.now.job.now verdict.now picture.now }
 {
-    put_scale_part(text, picture);
     put_legend_part(text, picture);
-    put_lanes_part(text, picture);
+    put_lanes_part(text, told, verdict, picture);
 }
 
 /// Writes that something was left out, where it was, and ends the drawing.
@@ -362,22 +245,48 @@ fn put_end(text: &mut Text, picture: &Picture)
 {
     if picture.is_cut {
         text.say(
-            "<text class=\"named\" x=\"2em\" y=\"1em\">only a part is drawn: there is too much of it</text>\n",
+            "<text class=\"named\" x=\"1em\" y=\"5.6em\">only a part is drawn: there is too much of it</text>\n",
         );
     }
     text.say("</svg>\n");
 }
 
-/// A picture as a drawing in SVG: X over Z, below it Y over Z where anything moves along Y, a scale, and the time of the channels.
-/// `NoMemory` where too little memory is found.
+/// Writes the title of a picture: the verdict in these words, and what it names.
+#[tactic(auto, unfolding(crate::specs::Drawing::title_part))]
+fn put_title_part(text: &mut Text, told: &Told, title: &[u8], verdict: &Verdict, picture: &Picture)
+    ensures { text.new ≡ text.old
+        ++ model.title_part told.now.lines.now told.now.job.now title.now verdict.now picture.now }
+{
+    put_title(text, told, title, verdict, letter_of(picture));
+}
+
+/// Writes the title and the views.
+#[tactic(auto, unfolding(crate::specs::Drawing::top_text))]
+fn put_top(text: &mut Text, told: &Told, title: &[u8], verdict: &Verdict, picture: &Picture)
+    ensures { text.new ≡ text.old
+        ++ model.top_text told.now.lines.now told.now.job.now title.now verdict.now picture.now }
+{
+    put_title_part(text, told, title, verdict, picture);
+    put_views(text, told, picture);
+}
+
+/// The picture of a run as a drawing in SVG: the verdict in these words with what it names, X over Z, below it Y over Z where
+/// anything moves along Y, and the time of the channels. `NoMemory` where too little memory is found.
 #[tactic(auto, unfolding(crate::specs::Drawing::drawing_text))]
-pub fn draw(alloc: Global, picture: &Picture) -> Result<Vec<u8>, NoMemory>
-    ensures { IfOk result (λ text. text.items ≡ model.drawing_text picture.now) }
+pub fn draw(
+    alloc: Global,
+    told: &Told,
+    title: &[u8],
+    verdict: &Verdict,
+    picture: &Picture,
+) -> Result<Vec<u8>, NoMemory>
+    ensures { IfOk result (λ text. text.items
+        ≡ model.drawing_text told.now.lines.now told.now.job.now title.now verdict.now picture.now) }
 {
     let mut text = Text::new(alloc);
     put_head(&mut text, picture);
-    put_views(&mut text, picture);
-    put_foot(&mut text, picture);
+    put_top(&mut text, told, title, verdict, picture);
+    put_foot(&mut text, told, verdict, picture);
     put_end(&mut text, picture);
     text.finish()
 }

@@ -14,9 +14,11 @@ pub(crate) struct Lanes {
     pub(crate) letter: i64,
     /// How many steps there are.
     pub(crate) steps: u32,
+    /// The lane of zones that nobody holds.
+    pub(crate) free: u8,
 }
 
-/// Up to how many steps the lines of blocks are written.
+/// Up to how many steps blocks are written.
 const LABEL_LIMIT: u32 = 300;
 
 /// How many steps a run has, by its moments.
@@ -30,6 +32,27 @@ fn steps_in(moments: &[Moment]) -> u32
     }
 }
 
+/// The lane of zones that nobody holds: that after the last channel.
+#[tactic(auto, unfolding(crate::specs::Times::free_lane))]
+fn free_lane(channels: &[u8]) -> u8
+    ensures { result ≡ model.free_lane channels.now }
+{
+    match channels.last() {
+        Some(channel) => (*channel).min(8) + 1,
+        None => 1,
+    }
+}
+
+/// Whether a channel begins to wait.
+pub(crate) fn is_wait(deed: Deed) -> bool
+    ensures { result ≡ model.is_wait deed }
+{
+    match deed {
+        Deed::Waits => true,
+        Deed::Acts | Deed::GoesOn | Deed::Ends => false,
+    }
+}
+
 impl Lanes {
     /// The lanes of a picture at a place of the drawing.
     #[tactic(auto, unfolding(crate::specs::Times::lanes_of))]
@@ -40,11 +63,26 @@ impl Lanes {
             top,
             letter,
             steps: steps_in(picture.moments.as_slice()),
+            free: free_lane(picture.channels.as_slice()),
         }
     }
 
-    /// Whether the lines of blocks are written.
-    fn is_labelled(&self) -> bool
+    /// Whether lanes have room for whole blocks, since there are few channels.
+    pub(crate) fn has_room(&self) -> bool
+        ensures { result ≡ model.has_room self.now }
+    {
+        self.free <= 4
+    }
+
+    /// How many letters it is from one lane to the next.
+    fn spacing(&self) -> i64
+        ensures { result ≡ model.spacing_of self.now }
+    {
+        if self.has_room() { 12 } else { 6 }
+    }
+
+    /// Whether blocks are written.
+    pub(crate) fn is_labelled(&self) -> bool
         ensures { result ≡ model.is_labelled self.now }
     {
         self.steps <= LABEL_LIMIT
@@ -64,7 +102,7 @@ impl Lanes {
 
     /// Where a step stands downwards.
     #[tactic(auto, unfolding(crate::specs::Times::y_of))]
-    fn y(&self, step: u32) -> i64
+    pub(crate) fn y(&self, step: u32) -> i64
         ensures { result ≡ model.y_of self.now step }
     {
         self.top
@@ -79,18 +117,20 @@ impl Lanes {
         self.y(self.steps)
     }
 
-    /// Where the lane of a channel stands across.
+    /// Where a lane stands across: the first one four letters from the left edge.
     #[tactic(auto, unfolding(crate::specs::Times::x_of))]
-    fn x(&self, channel: u8) -> i64
-        ensures { result ≡ model.x_of self.now channel }
+    pub(crate) fn x(&self, lane: u8) -> i64
+        ensures { result ≡ model.x_of self.now lane }
     {
-        self.letter
-            .saturating_mul(6)
-            .saturating_mul(i64::from(channel))
+        let letters = self
+            .spacing()
+            .saturating_mul(i64::from(lane.saturating_sub(1)))
+            .saturating_add(4);
+        self.letter.saturating_mul(letters)
     }
 
     /// Where a moment stands.
-    fn place_of(&self, moment: &Moment) -> (i64, i64)
+    pub(crate) fn place_of(&self, moment: &Moment) -> (i64, i64)
         ensures { result ≡ model.place_of self.now moment.now }
     {
         (self.x(moment.channel), self.y(moment.step))
@@ -149,7 +189,7 @@ impl Lanes {
     }
 
     /// Writes the lanes.
-    fn put_lanes(&self, text: &mut Text, channels: &[u8])
+    pub(crate) fn put_lanes(&self, text: &mut Text, channels: &[u8])
         ensures { text.new ≡ text.old ++ flat_map (model.lane_text self.now) channels.now }
     {
         for channel in channels {
@@ -215,7 +255,7 @@ impl Lanes {
     /// Writes what a channel does: a filled point where it acts, an empty one where it begins to wait, a green one where it goes
     /// on, a square at its end.
     #[tactic(auto, unfolding(crate::specs::Times::deed_text))]
-    fn put_deed(&self, text: &mut Text, deed: Deed, at: (i64, i64))
+    pub(crate) fn put_deed(&self, text: &mut Text, deed: Deed, at: (i64, i64))
         ensures { text.new ≡ text.old ++ model.deed_text self.now deed at }
     {
         match deed {
@@ -244,7 +284,7 @@ impl Lanes {
 
     /// Writes that line where another channel goes on.
     #[tactic(auto, unfolding(crate::specs::Times::join_text))]
-    fn put_join(&self, text: &mut Text, moment: &Moment)
+    pub(crate) fn put_join(&self, text: &mut Text, moment: &Moment)
         ensures { text.new ≡ text.old ++ model.join_text self.now moment.now }
     {
         if moment.actor != moment.channel {
@@ -252,64 +292,15 @@ impl Lanes {
         }
     }
 
-    /// Where the line of a block stands: to the right of its point, and a little over it.
+    /// Where the block of a moment stands: to the right of its point, and a little over it.
     #[tactic(auto, unfolding(crate::specs::Times::label_place))]
-    fn label_place(&self, moment: &Moment) -> (i64, i64)
+    pub(crate) fn label_place(&self, moment: &Moment) -> (i64, i64)
         ensures { result ≡ model.label_place self.now moment.now }
     {
         let at = self.place_of(moment);
         (
-            at.0.saturating_add(self.letter / 2),
+            at.0.saturating_add(self.letter),
             at.1.saturating_sub(self.letter / 6),
         )
-    }
-
-    /// Writes the line of a block.
-    #[tactic(auto, unfolding(crate::specs::Times::block_text))]
-    fn put_block(&self, text: &mut Text, moment: &Moment)
-        ensures { text.new ≡ text.old ++ model.block_text self.now moment.now }
-    {
-        text.say("<text class=\"step\"");
-        put_place(text, self.label_place(moment));
-        text.number(u64::from(moment.line));
-        text.say("</text>\n");
-    }
-
-    /// Writes the line of the block of a moment, where it has one and lines are written.
-    #[tactic(auto, unfolding(crate::specs::Times::label_text))]
-    fn put_label(&self, text: &mut Text, moment: &Moment)
-        ensures { text.new ≡ text.old ++ model.label_text self.now moment.now }
-    {
-        if self.is_labelled() && moment.line != 0 {
-            self.put_block(text, moment);
-        }
-    }
-
-    /// Writes a moment.
-    #[tactic(auto, unfolding(crate::specs::Times::moment_text))]
-    fn put_moment(&self, text: &mut Text, moment: &Moment)
-        ensures { text.new ≡ text.old ++ model.moment_text self.now moment.now }
-    {
-        self.put_join(text, moment);
-        self.put_deed(text, moment.deed, self.place_of(moment));
-        self.put_label(text, moment);
-    }
-
-    /// Writes what the channels do in each step.
-    fn put_moments(&self, text: &mut Text, moments: &[Moment])
-        ensures { text.new ≡ text.old ++ flat_map (model.moment_text self.now) moments.now }
-    {
-        for moment in moments {
-            self.put_moment(text, moment);
-        }
-    }
-
-    /// Writes the lanes, and on them what the channels do.
-    #[tactic(auto, unfolding(crate::specs::Times::lanes_text))]
-    pub(crate) fn put(&self, text: &mut Text, picture: &Picture)
-        ensures { text.new ≡ text.old ++ model.lanes_text self.now picture.now }
-    {
-        self.put_lanes(text, picture.channels.as_slice());
-        self.put_moments(text, picture.moments.as_slice());
     }
 }

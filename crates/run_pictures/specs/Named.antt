@@ -1,34 +1,39 @@
 -- Meaning. The two boxes that the verdict names, in red.
-use Rattle.std.specs.Prelude.{ℕ, ◌==◌, List, [], ◌∷◌, ◌++◌, find, Option, None, Some}
-use Rattle.std.specs.Option.{option_map_or}
+use Rattle.std.specs.Prelude.{◌==◌, Bool, true, false, List, [], ◌∷◌, ◌++◌, find, Option, None, Some}
+use Rattle.std.specs.Option.{is_some, option_map_or}
 use Rattle.job_types.specs.Job.{JobView}
 use Rattle.zone_stretches.specs.Pieces.{piece_boxes}
-use Rattle.zone_stretches.specs.Stretches.{StretchView}
 use Rattle.zone_stretches.specs.declared.stretches.ZoneBox.{ZoneBox}
 use Rattle.picture_views.specs.declared.shapes.Look.{Look}
 use Rattle.picture_views.specs.declared.shapes.Look.TheVariants.{First, Second}
 use Rattle.picture_views.specs.declared.shapes.Tile.{Tile}
+use Rattle.run_pictures.specs.Focus.{stretch_of}
 use Rattle.swept_boxes.specs.declared.Box3.{Box3}
 use Rattle.sync_types.specs.Views.{RunView}
 use Rattle.told_places.specs.declared.place.Meeting.{Meeting}
 use Rattle.told_places.specs.declared.place.Place.{Place}
 
--- boxes of one look, of which the first has this line
-abbrev pub labelled : Look → ℕ → List Box3 → List Tile
-labelled look label [] = []
-labelled look label (piece ∷ pieces) = record { space = piece; look = look; label = label } ∷ labelled look 0 pieces
+-- a piece of a box, labelled or not
+abbrev pub named_piece : Bool → Tile → Box3 → Tile
+named_piece marked tile piece = record tile { space = piece; is_labelled = marked }
 
--- the stretch and the box of a place; of a stretch no boxes are asked for
-abbrev pub stretch_of : Place → StretchView
-stretch_of place = record { name = place.name; first = place.first; last = place.last; entry = place.entry; boxes = [] }
+-- a box in pieces, of which this one is labelled or not, and no later one is
+abbrev pub labelled : Bool → Tile → List Box3 → List Tile
+labelled marked tile [] = []
+labelled marked tile (piece ∷ pieces) = named_piece marked tile piece ∷ labelled false tile pieces
 
+-- the box of a place, in this look and with its name
+abbrev pub named_tile : Look → Place → Tile
+named_tile look place = record { space = place.cover; look = look; name = place.name; moves = is_some place.motion; is_labelled = true; is_pale = false }
+
+-- the box of a place
 abbrev pub box_of : Place → ZoneBox
 box_of place = record { line = place.name.line; motion = place.motion; from = place.from; to = place.to; cover = place.cover }
 
--- a named box by its pieces, the first with its line
+-- a named box by its pieces, the first with its name
 unfoldable pub tiles_of_place : JobView → RunView → Look → Place → List Tile
 tiles_of_place job run look place =
-    option_map_or (λ zone. labelled look place.name.line (piece_boxes job run (record { zone = zone; stretch = stretch_of place; box = box_of place })))
+    option_map_or (λ zone. labelled true (named_tile look place) (piece_boxes job run (record { zone = zone; stretch = stretch_of place; box = box_of place })))
     (find (λ line. line.zone == place.name.zone) job.zones) []
 
 -- both of them

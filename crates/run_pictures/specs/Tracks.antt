@@ -1,5 +1,5 @@
 -- Meaning. The ways of the points that zones travel with.
-use Rattle.std.specs.Prelude.{ℕ, ℤ, pos, ◌+ℤ◌, ◌-ℤ◌, ◌==◌, Bool, List, [], ◌∷◌, find, flat_map, length, slice_get, slice_index_or, int_div, Option, None}
+use Rattle.std.specs.Prelude.{ℕ, ℤ, pos, ◌+ℤ◌, ◌-ℤ◌, ◌==◌, Bool, true, false, List, [], ◌∷◌, find, flat_map, length, slice_get, slice_index_or, int_div, Option, None}
 use Rattle.std.specs.Int.{w64, saturate_signed}
 use Rattle.std.specs.List.{range_with_len}
 use Rattle.std.specs.Option.{option_and_then, option_map, option_map_or, unwrap_or}
@@ -12,7 +12,8 @@ use Rattle.path_geometry.specs.declared.motion.Motion.{Motion}
 use Rattle.path_geometry.specs.declared.motion.Motion.TheVariants.{Line, Rapid}
 use Rattle.path_geometry.specs.declared.motion.Motion.TheVariants as Kind
 use Rattle.zone_stretches.specs.Pieces.{motion_at}
-use Rattle.zone_stretches.specs.Stretches.{StretchView, StretchesView}
+use Rattle.zone_stretches.specs.Stretches.{StretchView}
+use Rattle.run_pictures.specs.Focus.{SceneView, is_apart}
 use Rattle.zone_stretches.specs.declared.stretches.ZoneBox.{ZoneBox}
 use Rattle.picture_views.specs.declared.shapes.Track.{Track}
 use Rattle.picture_views.specs.declared.shapes.Turn.{Turn}
@@ -50,32 +51,47 @@ turn_with zone (Line ends) = None
 turn_with zone (Rapid ends) = None
 turn_with zone (Kind.Arc arc) = turn_of zone arc
 
+-- each axis goes by itself
+abbrev pub is_rapid : Motion → Bool
+is_rapid (Line ends) = false
+is_rapid (Rapid ends) = true
+is_rapid (Kind.Arc arc) = false
+
 -- the way of a zone during a box
 unfoldable pub track_of : JobView → ZoneLine → ℕ → ZoneBox → Motion → Track
 track_of job zone channel own motion = record {
   channel = channel;
+  zone = zone.zone;
+  line = own.line;
+  is_rapid = is_rapid motion;
+  is_pale = false;
   from = (ends_along job zone own motion 0).0 ∷ (ends_along job zone own motion 1).0 ∷ (ends_along job zone own motion 2).0 ∷ [];
   to = (ends_along job zone own motion 0).1 ∷ (ends_along job zone own motion 1).1 ∷ (ends_along job zone own motion 2).1 ∷ [];
   turn = turn_with zone motion;
 }
 
+-- a way, pale or not
+abbrev pub in_tint : Bool → Track → Track
+in_tint pale track = record track { is_pale = pale }
+
 -- of a box of a stretch; none where it stands or nobody holds the zone
-unfoldable pub track_at : JobView → RunView → ZoneLine → StretchView → ZoneBox → Option Track
-track_at job run zone stretch own =
-    option_and_then (λ channel. option_map (track_of job zone channel own) (motion_at run stretch.entry own.motion)) stretch.name.channel
+unfoldable pub track_at : JobView → RunView → Bool → ZoneLine → StretchView → ZoneBox → Option Track
+track_at job run pale zone stretch own =
+    option_and_then (λ channel. option_map (in_tint pale) (option_map (track_of job zone channel own) (motion_at run stretch.entry own.motion))) stretch.name.channel
 
-abbrev pub tracks_of_box : JobView → RunView → ZoneLine → StretchView → ZoneBox → List Track
-tracks_of_box job run zone stretch own = option_map_or (λ track. track ∷ []) (track_at job run zone stretch own) []
+abbrev pub tracks_of_box : JobView → RunView → Bool → ZoneLine → StretchView → ZoneBox → List Track
+tracks_of_box job run pale zone stretch own = option_map_or (λ track. track ∷ []) (track_at job run pale zone stretch own) []
 
--- all ways of a stretch
-abbrev pub tracks_of_stretch : JobView → RunView → ZoneLine → StretchView → List Track
-tracks_of_stretch job run zone stretch = flat_map (tracks_of_box job run zone stretch) stretch.boxes
+-- all ways of a stretch, pale where it is apart in time from what is looked at
+abbrev pub tracks_of_stretch : SceneView → ZoneLine → StretchView → List Track
+tracks_of_stretch scene zone stretch =
+    flat_map (tracks_of_box scene.job scene.run (is_apart scene.before scene.focus stretch) zone stretch) stretch.boxes
 
 -- all ways of the zone of a place
-unfoldable pub tracks_of_zone : JobView → RunView → StretchesView → ℕ → List Track
-tracks_of_zone job run stretches place =
-    option_map_or (λ zone. flat_map (tracks_of_stretch job run zone) (slice_index_or stretches.zones place [])) (slice_get (zones_in_order job) place) []
+unfoldable pub tracks_of_zone : SceneView → ℕ → List Track
+tracks_of_zone scene place =
+    option_map_or (λ zone. flat_map (tracks_of_stretch scene zone) (slice_index_or scene.stretches.zones place [])) (slice_get (zones_in_order scene.job) place) []
 
 -- all ways of all zones, in the order of their numbers
-unfoldable pub all_tracks : JobView → RunView → StretchesView → List Track
-all_tracks job run stretches = flat_map (tracks_of_zone job run stretches) (range_with_len 0 (length stretches.zones))
+unfoldable pub all_tracks : SceneView → List Track
+all_tracks scene = flat_map (tracks_of_zone scene) (range_with_len 0 (length scene.stretches.zones))

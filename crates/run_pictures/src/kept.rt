@@ -14,6 +14,14 @@ pub(crate) fn keep<T: Copy>(list: &mut Vec<T>, limit: usize, item: T) -> Result<
     Ok(())
 }
 
+/// Adds an item to a list. `NoMemory` where too little memory is found.
+pub(crate) fn add<T: Copy>(list: &mut Vec<T>, item: T) -> Result<(), NoMemory>
+    ensures { IfOk result (λ _. list.new.items ≡ list.old.items ++ (item ∷ [])) }
+{
+    list.push(item)?;
+    Ok(())
+}
+
 /// Shortens a list to so many items, and says whether it was longer.
 pub(crate) fn shortened<T: Copy>(list: &mut Vec<T>, limit: usize) -> bool
     ensures { IsShortened limit list.old.items list.new.items result }

@@ -6,7 +6,10 @@ mod kept;
 mod moments;
 mod named;
 mod picture;
+mod scene;
+mod spans;
 mod tracks;
 mod turns;
 
 pub use picture::{MOMENT_LIMIT, TILE_LIMIT, picture_of};
+pub use scene::Scene;

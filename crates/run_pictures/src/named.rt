@@ -1,9 +1,11 @@
 //! The two boxes that the verdict names, in red.
-ghost use Rattle.std.specs.Prelude.{◌≡◌, ◌≤◌, ◌++◌, ◌==◌, All, IfOk, find, option_copied};
+ghost use Rattle.std.specs.Prelude.{◌≡◌, ◌≤◌, ◌++◌, ◌==◌, true, All, IfOk, find, option_copied};
 ghost use Rattle.job_lines.specs.declared.limits.TheConstants.{DEPTH_LIMIT};
-ghost use Rattle.run_pictures.specs.Named as model;
 ghost use Rattle.zone_stretches.specs.ZoneBoxes.{IsFit};
+ghost use Rattle.run_pictures.specs.Focus.{stretch_of};
+ghost use Rattle.run_pictures.specs.Named as model;
 
+use crate::kept::add;
 use axis_sets::ZoneId;
 use job_types::{Job, ZoneLine};
 use out_of_memory::NoMemory;
@@ -14,20 +16,40 @@ use sync_types::Run;
 use told_places::{Meeting, Place};
 use zone_stretches::{Stretch, ZoneBox, boxes_by_pieces};
 
-/// Adds the pieces of a box; the first of them has its line.
-fn add_pieces(tiles: &mut Vec<Tile>, pieces: &[Box3], look: Look, line: u32) -> Result<(), NoMemory>
-    ensures { IfOk result (λ _. tiles.new.items ≡ tiles.old.items ++ model.labelled look line pieces.now) }
+/// A piece of a box, labelled or not.
+fn named_piece(tile: &Tile, piece: &Box3, marked: bool) -> Tile
+    ensures { result ≡ model.named_piece marked tile.now piece.now }
 {
-    let mut label = line;
+    let mut part = *tile;
+    part.space = *piece;
+    part.is_labelled = marked;
+    part
+}
+
+/// Adds a box by these pieces, of which the first alone is labelled.
+fn add_pieces(tiles: &mut Vec<Tile>, pieces: &[Box3], tile: &Tile) -> Result<(), NoMemory>
+    ensures { IfOk result (λ _. tiles.new.items ≡ tiles.old.items ++ model.labelled true tile.now pieces.now) }
+{
+    let mut marked = true;
     for piece in pieces {
-        tiles.push(Tile {
-            space: *piece,
-            look,
-            label,
-        })?;
-        label = 0;
+        add(tiles, named_piece(tile, piece, marked))?;
+        marked = false;
     }
     Ok(())
+}
+
+/// The box of a place, in this look and with its name.
+fn named_tile(place: &Place, look: Look) -> Tile
+    ensures { result ≡ model.named_tile look place.now }
+{
+    Tile {
+        space: place.cover,
+        look,
+        name: place.name,
+        moves: place.motion.is_some(),
+        is_labelled: true,
+        is_pale: false,
+    }
 }
 
 /// The zone of this number in a job.
@@ -39,7 +61,7 @@ fn zone_of(job: &Job, zone: ZoneId) -> Option<&ZoneLine>
 
 /// The stretch of a box, of which it is said what a box needs to be cut into pieces.
 fn stretch_of(alloc: Global, place: &Place) -> Stretch
-    ensures { result ≡ model.stretch_of place.now }
+    ensures { result ≡ stretch_of place.now }
 {
     Stretch {
         name: place.name,
@@ -82,7 +104,7 @@ fn add_place(
         Some(zone) => {
             let stretch = stretch_of(alloc, place);
             let pieces = boxes_by_pieces(job, run, zone, &stretch, &box_of(place));
-            add_pieces(tiles, pieces.as_slice(), look, place.name.line)
+            add_pieces(tiles, pieces.as_slice(), &named_tile(place, look))
         }
         None => Ok(()),
     }

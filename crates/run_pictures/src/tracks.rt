@@ -1,11 +1,13 @@
 //! The ways of the points that zones travel with.
 ghost use Rattle.std.specs.Prelude.{◌≡◌, ◌<◌, ◌==◌, ◌++◌, IfOk, flat_map, take, find, option_copied};
 ghost use Rattle.path_geometry.specs.Motions.{axes_of};
+ghost use Rattle.run_pictures.specs.Focus.{view_of};
 ghost use Rattle.run_pictures.specs.Tracks as model;
 ghost use Rattle.swept_boxes.specs.Boxes.{low_of, high_of};
 
 use crate::boxes::stretches_at;
 use crate::kept::keep;
+use crate::scene::{Scene, is_apart};
 use crate::turns::{signed, turn_of};
 use axis_sets::AxisId;
 use job_types::{Job, Side, ZoneLine};
@@ -14,8 +16,7 @@ use out_of_memory::NoMemory;
 use path_geometry::Motion;
 use picture_views::{Track, Turn};
 use swept_boxes::Box3;
-use sync_types::Run;
-use zone_stretches::{Stretch, Stretches, ZoneBox, motion_at, zone_at};
+use zone_stretches::{Stretch, ZoneBox, motion_at, zone_at};
 
 /// Where the point of a side stands during a box that does not move it: at the position of its carrier, or in the middle of the
 /// box where it has none.
@@ -77,6 +78,16 @@ fn turn_with(zone: &ZoneLine, motion: &Motion) -> Option<Turn>
     }
 }
 
+/// Whether each axis of a motion goes by itself.
+fn is_rapid(motion: &Motion) -> bool
+    ensures { result ≡ model.is_rapid motion.now }
+{
+    match motion {
+        Motion::Rapid(_) => true,
+        Motion::Line(_) | Motion::Arc(_) => false,
+    }
+}
+
 /// The bounds of a box along a direction.
 fn bounds_of(cover: &Box3, direction: usize) -> (i32, i32)
     requires { direction < 3 }
@@ -121,26 +132,42 @@ pub(crate) fn track_of(
     let z = ends_along(job, zone, own, motion, 2);
     Track {
         channel,
+        zone: zone.zone.number,
+        line: own.line,
+        is_rapid: is_rapid(motion),
+        is_pale: false,
         from: [x.0, y.0, z.0],
         to: [x.1, y.1, z.1],
         turn: turn_with(zone, motion),
     }
 }
 
+/// A way, pale or not.
+fn in_tint(track: Track, pale: bool) -> Track
+    ensures { result ≡ model.in_tint pale track }
+{
+    let mut tinted = track;
+    tinted.is_pale = pale;
+    tinted
+}
+
 /// The way of a box of a stretch of a zone; none where it stands or nobody holds the zone.
 #[tactic(auto, unfolding(crate::specs::Tracks::track_at))]
 fn track_at(
-    job: &Job,
-    run: &Run,
+    scene: &Scene,
+    pale: bool,
     zone: &ZoneLine,
     stretch: &Stretch,
     own: &ZoneBox,
 ) -> Option<Track>
-    ensures { result ≡ model.track_at job.now run.now zone.now stretch.now own.now }
+    ensures { result ≡ model.track_at scene.now.job.now scene.now.run.now pale zone.now stretch.now own.now }
 {
     match stretch.name.channel {
-        Some(channel) => match motion_at(run, stretch.entry, own.motion) {
-            Some(motion) => Some(track_of(job, zone, channel.number, own, motion)),
+        Some(channel) => match motion_at(scene.run, stretch.entry, own.motion) {
+            Some(motion) => {
+                let track = track_of(scene.job, zone, channel.number, own, motion);
+                Some(in_tint(track, pale))
+            }
             None => None,
         },
         None => None,
@@ -151,35 +178,37 @@ fn track_at(
 fn add_box(
     tracks: &mut Vec<Track>,
     limit: usize,
-    job: &Job,
-    run: &Run,
+    scene: &Scene,
+    pale: bool,
     zone: &ZoneLine,
     stretch: &Stretch,
     own: &ZoneBox,
 ) -> Result<(), NoMemory>
     ensures { IfOk result (λ _. take limit tracks.new.items
-        ≡ take limit (tracks.old.items ++ model.tracks_of_box job.now run.now zone.now stretch.now own.now)) }
+        ≡ take limit (tracks.old.items
+        ++ model.tracks_of_box scene.now.job.now scene.now.run.now pale zone.now stretch.now own.now)) }
 {
-    match track_at(job, run, zone, stretch, own) {
+    match track_at(scene, pale, zone, stretch, own) {
         Some(track) => keep(tracks, limit, track),
         None => Ok(()),
     }
 }
 
-/// Adds the ways of a stretch.
+/// Adds the ways of a stretch, pale where it is apart in time from what is looked at.
+#[tactic(auto, unfolding(crate::specs::Focus::view_of))]
 fn add_stretch(
     tracks: &mut Vec<Track>,
     limit: usize,
-    job: &Job,
-    run: &Run,
+    scene: &Scene,
     zone: &ZoneLine,
     stretch: &Stretch,
 ) -> Result<(), NoMemory>
     ensures { IfOk result (λ _. take limit tracks.new.items
-        ≡ take limit (tracks.old.items ++ model.tracks_of_stretch job.now run.now zone.now stretch.now)) }
+        ≡ take limit (tracks.old.items ++ model.tracks_of_stretch (view_of scene.now) zone.now stretch.now)) }
 {
+    let pale = is_apart(scene, stretch);
     for own in &stretch.boxes {
-        add_box(tracks, limit, job, run, zone, stretch, own)?;
+        add_box(tracks, limit, scene, pale, zone, stretch, own)?;
     }
     Ok(())
 }
@@ -188,60 +217,56 @@ fn add_stretch(
 fn add_stretches(
     tracks: &mut Vec<Track>,
     limit: usize,
-    job: &Job,
-    run: &Run,
+    scene: &Scene,
     zone: &ZoneLine,
     stretches: &[Stretch],
 ) -> Result<(), NoMemory>
     ensures { IfOk result (λ _. take limit tracks.new.items
-        ≡ take limit (tracks.old.items ++ flat_map (model.tracks_of_stretch job.now run.now zone.now) stretches.now)) }
+        ≡ take limit (tracks.old.items
+        ++ flat_map (model.tracks_of_stretch (view_of scene.now) zone.now) stretches.now)) }
 {
     for stretch in stretches {
-        add_stretch(tracks, limit, job, run, zone, stretch)?;
+        add_stretch(tracks, limit, scene, zone, stretch)?;
     }
     Ok(())
 }
 
 /// Adds the ways of the zone of this place.
-#[tactic(auto, unfolding(crate::specs::Tracks::tracks_of_zone))]
+#[tactic(auto, unfolding(crate::specs::Tracks::tracks_of_zone, crate::specs::Focus::view_of))]
 fn add_zone(
     tracks: &mut Vec<Track>,
     limit: usize,
-    job: &Job,
-    run: &Run,
-    stretches: &Stretches,
+    scene: &Scene,
     place: usize,
 ) -> Result<(), NoMemory>
     ensures { IfOk result (λ _. take limit tracks.new.items
-        ≡ take limit (tracks.old.items ++ model.tracks_of_zone job.now run.now stretches.now place)) }
+        ≡ take limit (tracks.old.items ++ model.tracks_of_zone (view_of scene.now) place)) }
 {
-    match zone_at(job, place) {
+    match zone_at(scene.job, place) {
         Some(zone) => add_stretches(
             tracks,
             limit,
-            job,
-            run,
+            scene,
             &zone,
-            stretches_at(stretches, place),
+            stretches_at(scene.stretches, place),
         ),
         None => Ok(()),
     }
 }
 
 /// Adds the ways of all zones, while there is room.
-#[tactic(auto, unfolding(crate::specs::Tracks::all_tracks))]
+#[tactic(auto, unfolding(crate::specs::Tracks::all_tracks, crate::specs::Focus::view_of))]
 pub(crate) fn add_zones(
     tracks: &mut Vec<Track>,
     limit: usize,
-    job: &Job,
-    run: &Run,
-    stretches: &Stretches,
+    scene: &Scene,
 ) -> Result<(), NoMemory>
     ensures { IfOk result (λ _. take limit tracks.new.items
-        ≡ take limit (tracks.old.items ++ model.all_tracks job.now run.now stretches.now)) }
+        ≡ take limit (tracks.old.items ++ model.all_tracks (view_of scene.now))) }
 {
+    let stretches = scene.stretches;
     for place in 0..stretches.zones.len() {
-        add_zone(tracks, limit, job, run, stretches, place)?;
+        add_zone(tracks, limit, scene, place)?;
     }
     Ok(())
 }
