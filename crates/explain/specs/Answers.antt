@@ -36,7 +36,7 @@ pub record IsJobAnswer (form : Form) (input : List ℕ) (job : JobView) (text : 
   pub status_is : status ≡ status_of verdict
   pub begins : form ≡ Text → BeginsWith (first_line verdict (zones_told job run clocks stretches)) text
   pub told : form ≡ Text → IsExplained input job (start_of job) run clocks stretches met verdict text
-  pub drawn : form ≡ Drawing → IsDrawn job run stretches (slice_get met 0) text
+  pub drawn : form ≡ Drawing → IsDrawn input job run clocks stretches (slice_get met 0) verdict text
 
 -- a text in this form, and where it is plain text, after it how many lines the input has left out
 abbrev pub text_with : Form → List ℕ → List ℕ → List ℕ

@@ -2,6 +2,7 @@ pub mod Answers
 pub mod Clashes
 pub mod Drawn
 pub mod Explained
+pub mod Focused
 pub mod Headlines
 pub mod Judgements
 pub mod LineTexts

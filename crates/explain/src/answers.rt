@@ -3,14 +3,10 @@ ghost use Rattle.std.specs.Prelude.{◌≡◌, ◌++◌, ◌≤◌, All, IfOk, �
 ghost use Rattle.channel_machine.specs.StartStates.{start_of};
 ghost use Rattle.explain.specs.Answers.{IsAnswer, IsJobAnswer, IsRefusalAnswer, text_with};
 ghost use Rattle.explain.specs.Drawn.{IsDrawn};
-ghost use Rattle.explain.specs.Explained.{IsExplained, zones_told};
-ghost use Rattle.explain.specs.Focused as focus;
-ghost use Rattle.explain.specs.Headlines.{first_line};
+ghost use Rattle.explain.specs.Explained.{IsExplained};
 ghost use Rattle.explain.specs.Judgements.{IsExplainedBy};
 ghost use Rattle.job_lines.specs.declared.limits.TheConstants.{DEPTH_LIMIT, INPUT_LIMIT};
 ghost use Rattle.job_types.specs.SoundJob.{BlocksFit, IsSoundJob};
-ghost use Rattle.order_clocks.specs.Tells.{is_before_in};
-ghost use Rattle.zone_stretches.specs.Overlaps.{compared_pairs};
 ghost use Rattle.zone_stretches.specs.Told.{IsTold};
 ghost use Rattle.zone_stretches.specs.ZoneBoxes.{IsFit};
 ghost use Rattle.ready_copies.specs.Copies.{left_out_text};
@@ -20,8 +16,8 @@ ghost use Rattle.sync_types.specs.Runs.{ComesFrom};
 ghost use Rattle.sync_types.specs.Turns.{AreEntries};
 
 use crate::data::data_of;
+use crate::drawings::drawing_of;
 use crate::explaining::explain;
-use crate::headlines::{say_headline, say_yes_line};
 use crate::judged::Judged;
 use crate::judging::{Judgement, judge_job, met_in};
 use crate::progress::{Stage, Watch};
@@ -29,17 +25,12 @@ use crate::words::Form;
 use channel_machine::start_state;
 use exit_statuses::Status;
 use fault_codes::Refusal;
-use growing_text::Text;
 use input_lines::Lines;
 use job_types::Job;
-use met_boxes::{Near, nearest_of, zone_pairs_of};
 use out_of_memory::NoMemory;
 use ready_copies::left_out_text;
 use refused_lines::{RefusedLine, explain_refusals, refused_lines};
-use run_drawing::draw;
-use run_pictures::{Scene, picture_of};
 use std::alloc::Global;
-use sync_types::Verdict;
 use tape_job::{JobFault, line_refusals, read_job};
 use told_data::refusal_data;
 use told_places::Meeting;
@@ -51,108 +42,6 @@ pub(crate) struct Answer {
     pub(crate) text: Vec<u8>,
     /// The status: that of `turnmill check` on the same input.
     pub(crate) status: Status,
-}
-
-/// The first line of a text on a judged job: the verdict.
-fn title_of(alloc: Global, judged: &Judged) -> Result<Vec<u8>, NoMemory>
-    requires sound { IsSoundJob judged.now.job.now }
-    requires whole { IsTold judged.now.job.now judged.now.run.now judged.now.stretches.now judged.now.clocks.now }
-    ensures { IfOk result (λ title. title.items ≡ first_line judged.now.verdict.now
-        (zones_told judged.now.job.now judged.now.run.now judged.now.clocks.now judged.now.stretches.now)) }
-{
-    let mut text = Text::new(alloc);
-    match judged.verdict {
-        Verdict::Yes => {
-            let zones = zone_pairs_of(
-                alloc,
-                judged.job,
-                judged.run,
-                judged.stretches,
-                judged.clocks,
-            )?;
-            say_yes_line(&mut text, zones.as_slice());
-        }
-        other => say_headline(&mut text, other),
-    }
-    text.finish()
-}
-
-/// The nearer of two pairs of boxes.
-fn nearer(one: Near, other: Option<Near>) -> Near
-    ensures { result ≡ focus.nearer one other }
-{
-    match other {
-        Some(other) => { if other.reach < one.reach { one } else { other } }
-        None => one,
-    }
-}
-
-/// The nearest of some pairs of boxes, the last of those that are as near; none where there is none.
-#[tactic(auto, unfolding(crate::specs::Focused::nearest_in))]
-fn nearest_in(rows: &[Near]) -> Option<Near>
-    ensures { result ≡ focus.nearest_in rows.now }
-{
-    let mut nearest = None;
-    for near in rows {
-        nearest = Some(nearer(*near, nearest));
-    }
-    nearest
-}
-
-/// What a drawing looks at: the first boxes that meet at NO, and the nearest ones at YES; else nothing.
-fn focus_of(alloc: Global, judged: &Judged) -> Result<Option<Meeting>, NoMemory>
-    requires sound { IsSoundJob judged.now.job.now }
-    requires whole { IsTold judged.now.job.now judged.now.run.now judged.now.stretches.now judged.now.clocks.now }
-    requires fit { All (All IsFit) judged.now.run.now.items }
-    ensures { IfOk result (λ met. focus.IsFocus judged.now.job.now judged.now.run.now
-        (compared_pairs (is_before_in judged.now.clocks.now.rows) judged.now.job.now judged.now.stretches.now)
-        (slice_get judged.now.met.now 0) judged.now.verdict.now met) }
-{
-    match judged.verdict {
-        Verdict::No(_, _) => Ok(judged.met.first().copied()),
-        Verdict::Yes => {
-            let rows = nearest_of(
-                alloc,
-                judged.job,
-                judged.run,
-                judged.stretches,
-                judged.clocks,
-            )?;
-            Ok(match nearest_in(rows.as_slice()) {
-                Some(near) => Some(Meeting {
-                    left: near.left,
-                    right: near.right,
-                }),
-                None => None,
-            })
-        }
-        _ => Ok(None),
-    }
-}
-
-/// The drawing of a judged job.
-fn drawing_of(alloc: Global, judged: &Judged) -> Result<Vec<u8>, NoMemory>
-    requires fit { All (All IsFit) judged.now.run.now.items }
-    requires deep { judged.now.job.now.depth ≤ DEPTH_LIMIT }
-    ensures { IfOk result (λ text. IsDrawn judged.now.job.now judged.now.run.now judged.now.stretches.now
-        (slice_get judged.now.met.now 0) text.items) }
-{
-    let scene = Scene {
-        job: judged.job,
-        run: judged.run,
-        stretches: judged.stretches,
-        clocks: judged.clocks,
-        focus: focus_of(alloc, judged)?,
-    };
-    let picture = picture_of(alloc, &scene, judged.met.first())?;
-    let title = title_of(alloc, judged)?;
-    draw(
-        alloc,
-        &judged.told(),
-        title.as_slice(),
-        judged.verdict,
-        &picture,
-    )
 }
 
 /// The text on a judged job.
@@ -169,8 +58,8 @@ fn text_of(alloc: Global, judged: &Judged, form: Form) -> Result<Vec<u8>, NoMemo
         → IsExplained judged.now.lines.now judged.now.job.now judged.now.start.now judged.now.run.now
         judged.now.clocks.now judged.now.stretches.now judged.now.met.now judged.now.verdict.now text.items) }
     ensures drawn { IfOk result (λ text. form ≡ Form.Drawing
-        → IsDrawn judged.now.job.now judged.now.run.now judged.now.stretches.now
-        (slice_get judged.now.met.now 0) text.items) }
+        → IsDrawn judged.now.lines.now judged.now.job.now judged.now.run.now judged.now.clocks.now
+        judged.now.stretches.now (slice_get judged.now.met.now 0) judged.now.verdict.now text.items) }
 {
     match form {
         Form::Text => explain(alloc, judged),
@@ -196,7 +85,8 @@ fn text_on(
         → IsExplained lines.now job.now (start_of job.now) judgement.now.run judgement.now.clocks
         judgement.now.stretches met.now judgement.now.verdict text.items) }
     ensures drawn { IfOk result (λ text. form ≡ Form.Drawing
-        → IsDrawn job.now judgement.now.run judgement.now.stretches (slice_get met.now 0) text.items) }
+        → IsDrawn lines.now job.now judgement.now.run judgement.now.clocks judgement.now.stretches
+        (slice_get met.now 0) judgement.now.verdict text.items) }
 {
     let start = start_state(job);
     let judged = Judged {

@@ -6,6 +6,7 @@ mod calls;
 mod clash_text;
 mod data;
 mod data_waits;
+mod drawings;
 mod ends;
 mod explaining;
 mod files;

@@ -48,6 +48,8 @@ pub(crate) const LEGEND: &str = "<line class=\"t\" x1=\"0\" y1=\"0\" x2=\"2em\" 
 <text x=\"24em\" y=\".35em\">held by nobody</text>
 <rect class=\"red\" x=\"33em\" y=\"-.5em\" width=\"1.5em\" height=\"1em\"/>
 <text x=\"35em\" y=\".35em\">can meet</text>
+<rect class=\"p b c1\" x=\"41em\" y=\"-.5em\" width=\"1.5em\" height=\"1em\"/>
+<text x=\"43em\" y=\".35em\">pale: at another time</text>
 <circle class=\"act\" cx=\".4em\" cy=\"2em\" r=\".33em\"/>
 <text x=\"1.2em\" y=\"2.35em\">SETM, CLEARM, START ..</text>
 <circle class=\"wait\" cx=\"17.4em\" cy=\"2em\" r=\".33em\"/>
