@@ -105,6 +105,7 @@ fn focus_of(alloc: Global, judged: &Judged) -> Result<Option<Meeting>, NoMemory>
 fn yes_title(alloc: Global, judged: &Judged) -> Result<Text, NoMemory>
     requires sound { IsSoundJob judged.now.job.now }
     requires whole { IsTold judged.now.job.now judged.now.run.now judged.now.stretches.now judged.now.clocks.now }
+    requires fit { All (All IsFit) judged.now.run.now.items }
     ensures { IfOk result (λ title. title ≡ yes_line
         (zones_told judged.now.job.now judged.now.run.now judged.now.clocks.now judged.now.stretches.now)) }
 {
@@ -133,16 +134,17 @@ fn other_title(alloc: Global, verdict: &Verdict) -> Text
 fn title_of(alloc: Global, judged: &Judged) -> Result<Text, NoMemory>
     requires sound { IsSoundJob judged.now.job.now }
     requires whole { IsTold judged.now.job.now judged.now.run.now judged.now.stretches.now judged.now.clocks.now }
+    requires fit { All (All IsFit) judged.now.run.now.items }
     ensures { IfOk result (λ title. title ≡ first_line judged.now.verdict.now
         (zones_told judged.now.job.now judged.now.run.now judged.now.clocks.now judged.now.stretches.now)) }
 {
     match judged.verdict {
         Verdict::Yes => yes_title(alloc, judged),
-        Verdict::No(_, _)
-        | Verdict::Race(_)
-        | Verdict::Stuck(_, _)
-        | Verdict::Alarm(_, _)
-        | Verdict::Undecided { .. } => Ok(other_title(alloc, judged.verdict)),
+        Verdict::No(_, _) => Ok(other_title(alloc, judged.verdict)),
+        Verdict::Race(_) => Ok(other_title(alloc, judged.verdict)),
+        Verdict::Stuck(_, _) => Ok(other_title(alloc, judged.verdict)),
+        Verdict::Alarm(_, _) => Ok(other_title(alloc, judged.verdict)),
+        Verdict::Undecided { .. } => Ok(other_title(alloc, judged.verdict)),
     }
 }
 
@@ -165,11 +167,6 @@ pub(crate) fn drawing_of(alloc: Global, judged: &Judged) -> Result<Vec<u8>, NoMe
     };
     let picture = picture_of(alloc, &scene, judged.met.first())?;
     let title = title_of(alloc, judged)?.finish()?;
-    draw(
-        alloc,
-        &judged.told(),
-        title.as_slice(),
-        judged.verdict,
-        &picture,
-    )
+    let told = judged.told();
+    draw(alloc, &told, title.as_slice(), judged.verdict, &picture)
 }
