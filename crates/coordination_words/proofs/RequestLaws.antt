@@ -167,7 +167,7 @@ module _ (setting : SettingView) (parameters : ℕ → ℤ) where
 
   waiting_sound : (mark : ℕ) (named : List Bool) → mark < MARK_LIMIT → ((m : ℕ) → has named m ≡ true → setting.has_channel m ≡ true) → IsSound (WaitM mark (without_itself setting named))
   waiting_sound mark named below each = record {
-    marks = ap not (lt-ltb mark 10 below);
+    marks = ap not (lt-ltb mark MARK_LIMIT below);
     channels = list_all-members_of (without_itself setting named) setting.has_channel (λ m member. each m (less_has named setting.channel m member));
     itself = less_itself named setting.channel;
     program = tt;

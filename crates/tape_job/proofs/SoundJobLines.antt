@@ -1,4 +1,5 @@
 -- What job lines tell that break no rule is sound.
+use Rattle.axis_sets.specs.declared.limits.TheConstants.{AXIS_LIMIT, CHANNEL_LIMIT, ZONE_LIMIT}
 use Rattle.std.proofs.Common.{◌≡◌, ◌≢◌, ◌∙◌, ℕ, zero, suc, ◌+◌, ◌<◌, ◌≤◌, ℤ, Bool, true, false, ◌&&◌, ◌||◌, not, ◌==◌, nat_le, nat_lt, if◌then◌else◌, true≢false, position, List, [], ◌∷◌, ◌++◌, length, slice_get, Option, Some, None, IfSome, IsSome, get_or, subst, refl, sym, ap, arith, length-append, rules}
 use Rattle.std.specs.List.{All, AllPairs, position_or_len}
 use Rattle.std.specs.Option.{option_and_then, option_map}
@@ -30,11 +31,11 @@ use Rattle.job_types.specs.Axes.{axis_at, first_owner}
 pub record ChannelFacts (channels : List ChannelLine) : Type 0 where
   pub numbers : AllPairs (λ line other. line.channel ≢ other.channel) channels
   pub low : All (λ line. 1 ≤ line.channel) channels
-  pub high : All (λ line. line.channel ≤ 8) channels
+  pub high : All (λ line. line.channel ≤ CHANNEL_LIMIT) channels
   pub selecting : All (λ line. line.starts ≡ true → IsSome line.program) channels
 
 pub record AxisFacts (axes : List AxisLine) : Type 0 where
-  pub few : length axes ≤ 16
+  pub few : length axes ≤ AXIS_LIMIT
   pub names : AllPairs HaveOtherNames axes
   pub positions : All (λ line. IsPosition line.at) axes
 
@@ -153,7 +154,7 @@ channel_differs job channel none =
     (none_pass (λ line. line.channel == channel) job.channels new.0)
 
 pub channel_told : (job : JobView) (number channel : ℕ) (program : Option (List ℕ)) (starts : Bool) → ListFacts job → rule.channel_rule job channel ≡ None
-    → ((1 ≤ channel) × (channel ≤ 8)) × (starts ≡ true → IsSome program)
+    → ((1 ≤ channel) × (channel ≤ CHANNEL_LIMIT)) × (starts ≡ true → IsSome program)
     → ListFacts (with_channel job (record { line = number; channel = channel; program = program; starts = starts }))
 channel_told job number channel program starts facts none sound =
     let line : ChannelLine = record { line = number; channel = channel; program = program; starts = starts } in
@@ -162,7 +163,7 @@ channel_told job number channel program starts facts none sound =
       channels = record {
         numbers = all_pairs_push (λ (l other : ChannelLine). l.channel ≢ other.channel) job.channels line facts.channels.numbers (channel_differs job channel none);
         low = All-push (λ (l : ChannelLine). 1 ≤ l.channel) job.channels line facts.channels.low sound.0.0;
-        high = All-push (λ (l : ChannelLine). l.channel ≤ 8) job.channels line facts.channels.high sound.0.1;
+        high = All-push (λ (l : ChannelLine). l.channel ≤ CHANNEL_LIMIT) job.channels line facts.channels.high sound.0.1;
         selecting = All-push (λ (l : ChannelLine). l.starts ≡ true → IsSome l.program) job.channels line facts.channels.selecting sound.1;
       };
       axes = facts.axes;
@@ -215,8 +216,8 @@ axis_told job number name owner at facts none near =
     let extends : Extends job new = axis_extends job line in
     let first = unbroken (not (rule.has_owner job owner)) NotDeclared _ none in
     let second = unbroken (rule.has_axis job name) DeclaredTwice _ first.1 in
-    let third = unbroken (nat_le 16 (length job.axes)) TooMany None second.1 in
-    let few : length job.axes < 16 = search (rules, third.0) in
+    let third = unbroken (nat_le AXIS_LIMIT (length job.axes)) TooMany None second.1 in
+    let few : length job.axes < AXIS_LIMIT = search (rules, third.0) in
     let further : length (job.axes ++ line ∷ []) ≡ length job.axes + 1 = length-append job.axes (line ∷ []) in
     let linked : Linked new job.axes job.offsets job.zones = linked_extends job new extends job.axes job.offsets job.zones facts.linked in
     record {
@@ -263,7 +264,7 @@ axis_found : (axes : List AxisLine) (name : AxisName) (place : Option ℕ) → p
 axis_found axes name None at = tt
 axis_found axes name (Some i) at =
     let found = place (nat_lt (position_or_len (rule.is_named name) axes) (length axes)) (position_or_len (rule.is_named name) axes) (length axes) i refl at in
-    axis_place i axes (nat_lt i 16) (omega (arith, found.0, found.1))
+    axis_place i axes (nat_lt i AXIS_LIMIT) (omega (arith, found.0, found.1))
 
 pub axis_within : (axes : List AxisLine) (name : AxisName) → IfSome (rule.axis_of axes name) (λ axis. axis < length axes)
 unfolding rule.axis_of
@@ -435,7 +436,7 @@ sides_pass job zone holder x y z none =
     )
 
 pub zone_told : (job : JobView) (number : ℕ) (zone : NamedZone) (x y z : Side) → ListFacts job → rule.zone_rule job zone.zone zone.holder (Some x) (Some y) (Some z) ≡ None
-    → (1 ≤ zone.zone) × (zone.zone ≤ 32) → (1 ≤ zone.group) × (zone.group ≤ 32) → IsSoundRange x.lo x.hi → IsSoundRange y.lo y.hi → IsSoundRange z.lo z.hi
+    → (1 ≤ zone.zone) × (zone.zone ≤ ZONE_LIMIT) → (1 ≤ zone.group) × (zone.group ≤ ZONE_LIMIT) → IsSoundRange x.lo x.hi → IsSoundRange y.lo y.hi → IsSoundRange z.lo z.hi
     → ListFacts (with_zone job (record { line = number; zone = zone.zone; group = zone.group; holder = zone.holder; on = zone.on; sides = x ∷ y ∷ z ∷ [] }))
 zone_told job number zone x y z facts none zone_range group_range x_range y_range z_range =
     let line : ZoneLine = record { line = number; zone = zone.zone; group = zone.group; holder = zone.holder; on = zone.on; sides = x ∷ y ∷ z ∷ [] } in
@@ -508,7 +509,7 @@ nothing_listed = record {
   channels = record {
     numbers = no_pairs (λ (l other : ChannelLine). l.channel ≢ other.channel);
     low = All-nil (λ (l : ChannelLine). 1 ≤ l.channel);
-    high = All-nil (λ (l : ChannelLine). l.channel ≤ 8);
+    high = All-nil (λ (l : ChannelLine). l.channel ≤ CHANNEL_LIMIT);
     selecting = All-nil (λ (l : ChannelLine). l.starts ≡ true → IsSome l.program);
   };
   axes = record { few = omega arith; names = no_pairs HaveOtherNames; positions = All-nil (λ (l : AxisLine). IsPosition l.at) };

@@ -1,4 +1,5 @@
 -- What holds of all that a line can say by itself.
+use Rattle.axis_sets.specs.declared.limits.TheConstants.{CHANNEL_LIMIT, ZONE_LIMIT}
 use Rattle.std.specs.Bool.{⊤}
 use Rattle.std.proofs.Common.{◌≡◌, inl, inr, ℕ, zero, suc, ◌≤◌, ◌<◌, ℤ, pos, negsuc, neg_ℤ, unsigned_abs, Bool, true, false, ◌&&◌, ◌||◌, not, if◌then◌else◌, nat_le, nat_lt, int_le, length, ◌==◌, codes, List, [], ◌∷◌, Result, Ok, Err, IfOk, Option, Some, None, IfSome, IsSome, refl, rules, arith}
 use Rattle.std.specs.List.{list_any}
@@ -68,13 +69,13 @@ number_sound : (low high : ℕ) (word : List ℕ) → IfSome (number_within low 
 unfolding number_within
 number_sound low high word = found_within low high (whole_of word)
 
-channel_sound : (word : List ℕ) → IfOk (declaration.channel_of word) (IsWithin 1 8)
+channel_sound : (word : List ℕ) → IfOk (declaration.channel_of word) (IsWithin 1 CHANNEL_LIMIT)
 unfolding declaration.channel_of
-channel_sound word = or_ok (IsWithin 1 8) OutOfRange (number_within 1 8 word) (number_sound 1 8 word)
+channel_sound word = or_ok (IsWithin 1 CHANNEL_LIMIT) OutOfRange (number_within 1 CHANNEL_LIMIT word) (number_sound 1 CHANNEL_LIMIT word)
 
-zone_sound : (word : List ℕ) → IfOk (declaration.zone_of word) (IsWithin 1 32)
+zone_sound : (word : List ℕ) → IfOk (declaration.zone_of word) (IsWithin 1 ZONE_LIMIT)
 unfolding declaration.zone_of
-zone_sound word = or_ok (IsWithin 1 32) OutOfRange (number_within 1 32 word) (number_sound 1 32 word)
+zone_sound word = or_ok (IsWithin 1 ZONE_LIMIT) OutOfRange (number_within 1 ZONE_LIMIT word) (number_sound 1 ZONE_LIMIT word)
 
 -- lengths
 reach_by : (near : Bool) (z : ℤ) → nat_le (unsigned_abs z) 10000000 ≡ near → IfSome (if near then Some z else None) IsPosition
@@ -161,10 +162,10 @@ side_sound carrier lo hi =
 
 -- what holds of a job line
 abbrev pub IsSoundDeclaration : Declaration → Type 0
-IsSoundDeclaration (Channel channel program starts) = IsWithin 1 8 channel × (starts ≡ true → IsSome program)
+IsSoundDeclaration (Channel channel program starts) = IsWithin 1 CHANNEL_LIMIT channel × (starts ≡ true → IsSome program)
 IsSoundDeclaration (Axis name owner at) = IsPosition at
 IsSoundDeclaration (Offset channel g slot by) = IsSettable g × (slot < 3) × IsPosition by
-IsSoundDeclaration (Zone zone) = IsWithin 1 32 zone.zone × IsWithin 1 32 zone.group × IsSoundSide zone.x × IsSoundSide zone.y × IsSoundSide zone.z
+IsSoundDeclaration (Zone zone) = IsWithin 1 ZONE_LIMIT zone.zone × IsWithin 1 ZONE_LIMIT zone.group × IsSoundSide zone.x × IsSoundSide zone.y × IsSoundSide zone.z
 IsSoundDeclaration (Margin margin) = IsSoundMargin margin
 IsSoundDeclaration (Depth depth) = depth ≤ 4
 IsSoundDeclaration (Budget budget) = IsWithin 1 100000000 budget
@@ -173,7 +174,7 @@ IsSoundDeclaration declaration = ⊤
 channel_declaration_sound : (channel : List ℕ) (program : Option (List ℕ)) (starts : Bool) → (starts ≡ true → IsSome program) → IfOk (declaration.channel_declaration_of channel program starts) IsSoundDeclaration
 unfolding declaration.channel_declaration_of
 channel_declaration_sound channel program starts named =
-    then_ok (IsWithin 1 8) IsSoundDeclaration (declaration.channel_of channel) _ (channel_sound channel) (λ number range. (range, named))
+    then_ok (IsWithin 1 CHANNEL_LIMIT) IsSoundDeclaration (declaration.channel_of channel) _ (channel_sound channel) (λ number range. (range, named))
 
 starting_declaration_sound : (channel program start : List ℕ) → IfOk (declaration.starting_declaration_of channel program start) IsSoundDeclaration
 unfolding declaration.starting_declaration_of
@@ -227,8 +228,8 @@ zone_declaration_sound : (zone group holder state cx lx hx cy ly hy cz lz hz : L
 unfolding declaration.zone_declaration_of
 zone_declaration_sound zone group holder state cx lx hx cy ly hy cz lz hz =
     then_any IsSoundDeclaration (declaration.state_of state) _ (λ on.
-    then_ok (IsWithin 1 32) IsSoundDeclaration (declaration.zone_of zone) _ (zone_sound zone) (λ z zone_range.
-    then_ok (IsWithin 1 32) IsSoundDeclaration (declaration.zone_of group) _ (zone_sound group) (λ g group_range.
+    then_ok (IsWithin 1 ZONE_LIMIT) IsSoundDeclaration (declaration.zone_of zone) _ (zone_sound zone) (λ z zone_range.
+    then_ok (IsWithin 1 ZONE_LIMIT) IsSoundDeclaration (declaration.zone_of group) _ (zone_sound group) (λ g group_range.
     then_any IsSoundDeclaration (declaration.owner_of holder) _ (λ h.
     then_ok IsSoundSide IsSoundDeclaration (declaration.named_side_of cx lx hx) _ (side_sound cx lx hx) (λ x x_range.
     then_ok IsSoundSide IsSoundDeclaration (declaration.named_side_of cy ly hy) _ (side_sound cy ly hy) (λ y y_range.
