@@ -1,1 +1,1 @@
-pub mod LengthLemmas
+pub mod ExtentLaws

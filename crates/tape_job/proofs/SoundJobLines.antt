@@ -7,6 +7,9 @@ use Rattle.std.proofs.lemmas.Option.{slice_get_within}
 use Rattle.std.proofs.lemmas.List.Elements.{All-nil, All-cons, All-push, All-weaker}
 use Rattle.std.proofs.lemmas.List.Kept.{AllPairs-cons}
 use Rattle.std.proofs.lemmas.List.Quantifiers.{all_pairs_push}
+use Rattle.axis_sets.specs.declared.limits.TheConstants.{AXIS_LIMIT, CHANNEL_LIMIT}
+use Rattle.job_lines.proofs.ExtentLaws.{few_axes}
+use Rattle.job_lines.specs.Extent.{extent_of}
 use Rattle.job_lines.specs.declared.code.Code.TheVariants.{NotDeclared, DeclaredTwice, OwnerDiffers, TooMany}
 use Rattle.job_lines.specs.declared.declaration.AxisName.{AxisName}
 use Rattle.job_lines.specs.declared.declaration.NamedSide.{NamedSide}
@@ -30,11 +33,11 @@ use Rattle.job_types.specs.Axes.{axis_at, first_owner}
 pub record ChannelFacts (channels : List ChannelLine) : Type 0 where
   pub numbers : AllPairs (λ line other. line.channel ≢ other.channel) channels
   pub low : All (λ line. 1 ≤ line.channel) channels
-  pub high : All (λ line. line.channel ≤ 8) channels
+  pub high : All (λ line. line.channel ≤ CHANNEL_LIMIT) channels
   pub selecting : All (λ line. line.starts ≡ true → IsSome line.program) channels
 
 pub record AxisFacts (axes : List AxisLine) : Type 0 where
-  pub few : length axes ≤ 16
+  pub few : length axes ≤ AXIS_LIMIT
   pub names : AllPairs HaveOtherNames axes
   pub positions : All (λ line. IsPosition line.at) axes
 
@@ -153,7 +156,7 @@ channel_differs job channel none =
     (none_pass (λ line. line.channel == channel) job.channels new.0)
 
 pub channel_told : (job : JobView) (number channel : ℕ) (program : Option (List ℕ)) (starts : Bool) → ListFacts job → rule.channel_rule job channel ≡ None
-    → ((1 ≤ channel) × (channel ≤ 8)) × (starts ≡ true → IsSome program)
+    → ((1 ≤ channel) × (channel ≤ CHANNEL_LIMIT)) × (starts ≡ true → IsSome program)
     → ListFacts (with_channel job (record { line = number; channel = channel; program = program; starts = starts }))
 channel_told job number channel program starts facts none sound =
     let line : ChannelLine = record { line = number; channel = channel; program = program; starts = starts } in
@@ -162,7 +165,7 @@ channel_told job number channel program starts facts none sound =
       channels = record {
         numbers = all_pairs_push (λ (l other : ChannelLine). l.channel ≢ other.channel) job.channels line facts.channels.numbers (channel_differs job channel none);
         low = All-push (λ (l : ChannelLine). 1 ≤ l.channel) job.channels line facts.channels.low sound.0.0;
-        high = All-push (λ (l : ChannelLine). l.channel ≤ 8) job.channels line facts.channels.high sound.0.1;
+        high = All-push (λ (l : ChannelLine). l.channel ≤ CHANNEL_LIMIT) job.channels line facts.channels.high sound.0.1;
         selecting = All-push (λ (l : ChannelLine). l.starts ≡ true → IsSome l.program) job.channels line facts.channels.selecting sound.1;
       };
       axes = facts.axes;
@@ -205,6 +208,11 @@ axis_differs job name none line letter number =
     (λ also. differs other.letter name.letter other.number name.number fails equal (also ∙ number)))
     job.axes (none_pass (rule.is_named name) job.axes none)
 
+below_widest : (count most : ℕ) → nat_le most count ≡ false → most ≤ AXIS_LIMIT → count < AXIS_LIMIT
+below_widest count most fails few =
+    let below : count < most = search (rules, fails) in
+    omega (arith, below, few)
+
 pub axis_told : (job : JobView) (number : ℕ) (name : AxisName) (owner : Option ℕ) (at : ℤ) → ListFacts job → rule.axis_rule job name owner ≡ None
     → IsPosition at
     → ListFacts (with_axis job (record { line = number; letter = name.letter; number = name.number; owner = owner; at = at }))
@@ -215,8 +223,8 @@ axis_told job number name owner at facts none near =
     let extends : Extends job new = axis_extends job line in
     let first = unbroken (not (rule.has_owner job owner)) NotDeclared _ none in
     let second = unbroken (rule.has_axis job name) DeclaredTwice _ first.1 in
-    let third = unbroken (nat_le 16 (length job.axes)) TooMany None second.1 in
-    let few : length job.axes < 16 = search (rules, third.0) in
+    let third = unbroken (nat_le (extent_of job.version).axes (length job.axes)) TooMany None second.1 in
+    let few : length job.axes < AXIS_LIMIT = below_widest (length job.axes) (extent_of job.version).axes third.0 (few_axes job.version) in
     let further : length (job.axes ++ line ∷ []) ≡ length job.axes + 1 = length-append job.axes (line ∷ []) in
     let linked : Linked new job.axes job.offsets job.zones = linked_extends job new extends job.axes job.offsets job.zones facts.linked in
     record {
@@ -263,7 +271,7 @@ axis_found : (axes : List AxisLine) (name : AxisName) (place : Option ℕ) → p
 axis_found axes name None at = tt
 axis_found axes name (Some i) at =
     let found = place (nat_lt (position_or_len (rule.is_named name) axes) (length axes)) (position_or_len (rule.is_named name) axes) (length axes) i refl at in
-    axis_place i axes (nat_lt i 16) (omega (arith, found.0, found.1))
+    axis_place i axes (nat_lt i AXIS_LIMIT) (omega (arith, found.0, found.1))
 
 pub axis_within : (axes : List AxisLine) (name : AxisName) → IfSome (rule.axis_of axes name) (λ axis. axis < length axes)
 unfolding rule.axis_of
@@ -502,13 +510,30 @@ list_kept job programs facts =
       linked = linked_extends job new (lines_extend job new refl refl) job.axes job.offsets job.zones facts.linked;
     }
 
+-- the job line
+abbrev pub with_job_line : JobView → ℕ → JobView
+with_job_line job line = record job { line = line }
+
+pub job_line_told : (job : JobView) (line : ℕ) → ListFacts job → ListFacts (with_job_line job line)
+job_line_told job line facts =
+    let new : JobView = with_job_line job line in
+    record {
+      channels = facts.channels;
+      axes = facts.axes;
+      slots = facts.slots;
+      places = facts.places;
+      numbers = facts.numbers;
+      options = facts.options;
+      linked = linked_extends job new (lines_extend job new refl refl) job.axes job.offsets job.zones facts.linked;
+    }
+
 -- of nothing
 pub nothing_listed : ListFacts nothing_told
 nothing_listed = record {
   channels = record {
     numbers = no_pairs (λ (l other : ChannelLine). l.channel ≢ other.channel);
     low = All-nil (λ (l : ChannelLine). 1 ≤ l.channel);
-    high = All-nil (λ (l : ChannelLine). l.channel ≤ 8);
+    high = All-nil (λ (l : ChannelLine). l.channel ≤ CHANNEL_LIMIT);
     selecting = All-nil (λ (l : ChannelLine). l.starts ≡ true → IsSome l.program);
   };
   axes = record { few = omega arith; names = no_pairs HaveOtherNames; positions = All-nil (λ (l : AxisLine). IsPosition l.at) };
