@@ -1,3 +1,4 @@
 pub mod SetLaws
 pub mod WordLaws
 pub mod KeptLaws
+pub mod MarkLaws

@@ -1,7 +1,7 @@
 //! Axes, channels and zones, by their numbers.
 use std::marker::Model;
 
-/// An axis of a job: its place among the AXIS lines, counted from 0, below 16. A contract sees it as this number.
+/// An axis of a job: its place among the AXIS lines, counted from 0, below `AXIS_LIMIT`. A contract sees it as this number.
 #[derive(Clone, Copy, PartialEq, Eq)]
 pub struct AxisId {
     /// The place, counted from 0.
@@ -31,7 +31,7 @@ impl Default for AxisId {
     }
 }
 
-/// A channel of the machine, by its number from 1 to 8. A contract sees it as this number.
+/// A channel of the machine, by its number from 1 to `CHANNEL_LIMIT`. A contract sees it as this number.
 #[derive(Clone, Copy, PartialEq, Eq)]
 pub struct ChannelId {
     /// The number of the channel.
@@ -61,7 +61,7 @@ impl Default for ChannelId {
     }
 }
 
-/// A protection zone, by its number from 1 to 32. A contract sees it as this number.
+/// A protection zone, by its number from 1 to `ZONE_LIMIT`. A contract sees it as this number.
 #[derive(Clone, Copy, PartialEq, Eq)]
 pub struct ZoneId {
     /// The number of the zone.

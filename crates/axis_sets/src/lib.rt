@@ -4,6 +4,7 @@
 mod ids;
 mod laws;
 mod limits;
+mod marks;
 mod members;
 mod places;
 mod positions;
@@ -13,6 +14,7 @@ mod threads;
 pub use ids::{AxisId, ChannelId, ZoneId};
 pub use laws::sets_are_known_by_their_members;
 pub use limits::{AXIS_LIMIT, CHANNEL_LIMIT, CHANNEL_PLACES, MARK_LIMIT, ZONE_LIMIT, ZONE_PLACES};
+pub use marks::MarkSet;
 pub use members::Member;
 pub use positions::Positions;
-pub use sets::{AxisSet, ChannelSet, MarkSet, Set, ZoneSet};
+pub use sets::{AxisSet, ChannelSet, Set, ZoneSet};

@@ -1,13 +1,16 @@
 //! How many axes, channels, marks and zones there are.
 
 /// How many axes a job has at most. Axes are numbered from 0.
-pub const AXIS_LIMIT: usize = 16;
+pub const AXIS_LIMIT: usize = 24;
 
 /// The greatest number of a channel. Channels are numbered from 1.
-pub const CHANNEL_LIMIT: usize = 8;
+pub const CHANNEL_LIMIT: usize = 10;
 
 /// How many marks there are. Marks are numbered from 0.
-pub const MARK_LIMIT: usize = 10;
+pub const MARK_LIMIT: usize = 100;
+
+/// How many marks each of the two words of a set of marks has.
+pub(crate) const MARK_HALF: usize = MARK_LIMIT / 2;
 
 /// The greatest number of a zone. Zones are numbered from 1.
 pub const ZONE_LIMIT: usize = 32;

@@ -2,7 +2,7 @@
 ghost use Rattle.std.specs.Prelude.{◌≡◌, ℕ, ◌<◌, ◌≤◌};
 ghost use Rattle.axis_sets.specs.declared.limits.TheConstants.{WORD_BITS};
 
-use crate::{AXIS_LIMIT, AxisId, CHANNEL_PLACES, ChannelId, MARK_LIMIT, ZONE_PLACES, ZoneId};
+use crate::{AXIS_LIMIT, AxisId, CHANNEL_PLACES, ChannelId, ZONE_PLACES, ZoneId};
 
 /// What can be a member of a set with `N` places: it has a number, which is its place.
 pub trait Member<const N: usize>: Copy {
@@ -72,28 +72,6 @@ impl Member<CHANNEL_PLACES> for ChannelId {
         ChannelId {
             number: number as u8,
         }
-    }
-}
-
-impl Member<MARK_LIMIT> for u8 {
-    ghost use Rattle.std.specs.Prelude.{ℕ, ◌<◌, ◌≤◌};
-    ghost use Rattle.std.proofs.Common.{arith};
-    ghost use Rattle.axis_sets.specs.declared.limits.TheConstants.{MARK_LIMIT, WORD_BITS};
-
-    ghost number_of = { λ member. member };
-
-    ghost lowest_number = { 0 };
-
-    ghost CanStand = { λ mark. mark < MARK_LIMIT };
-
-    ghost fits = { omega arith };
-
-    fn number(self) -> usize {
-        usize::from(self)
-    }
-
-    fn numbered(number: usize) -> u8 {
-        number as u8
     }
 }
 

@@ -1,10 +1,10 @@
-//! Sets of axes, of channels, of marks and of zones.
+//! Sets of axes, of channels and of zones.
 ghost use Rattle.std.specs.Prelude.{◌≡◌, ℕ, ◌<◌, ◌==◌, ◌||◌, ◌&&◌, ◌↔◌, not, false, length, IsTrue};
 ghost use Rattle.axis_sets.specs.Sets.{has, IsEmpty, GivesLowestOf};
 
 use crate::members::Member;
 use crate::places::Places;
-use crate::{AXIS_LIMIT, AxisId, CHANNEL_PLACES, ChannelId, MARK_LIMIT, ZONE_PLACES, ZoneId};
+use crate::{AXIS_LIMIT, AxisId, CHANNEL_PLACES, ChannelId, ZONE_PLACES, ZoneId};
 use std::marker::{Model, PhantomData};
 
 /// A set of what has a number below `N`. A contract sees for each of these numbers whether it is a member.
@@ -19,9 +19,6 @@ pub type AxisSet = Set<AxisId, AXIS_LIMIT>;
 
 /// A set of channels; 0 is never a member.
 pub type ChannelSet = Set<ChannelId, CHANNEL_PLACES>;
-
-/// A set of marks, which are numbers below `MARK_LIMIT`.
-pub type MarkSet = Set<u8, MARK_LIMIT>;
 
 /// A set of zones; 0 is never a member.
 pub type ZoneSet = Set<ZoneId, ZONE_PLACES>;

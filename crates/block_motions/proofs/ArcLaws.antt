@@ -1,4 +1,5 @@
 -- The motion of a block with an arc is sound, and one of axes that the channel owns.
+use Rattle.axis_sets.specs.declared.limits.TheConstants.{AXIS_LIMIT}
 use Rattle.std.proofs.Common.{◌≡◌, ◌≢◌, ℕ, ℤ, pos, ◌+ℤ◌, ◌*ℤ◌, not, Bool, true, false, cond, List, Option, None, Some, IfSome, Result, Ok, Err, IfOk, All, AllPairs, refl, sym, subst, arith}
 use Rattle.std.proofs.lemmas.Bool.{leb-true}
 use Rattle.std.proofs.lemmas.List.Elements.{All-weaker}
@@ -97,12 +98,12 @@ module _ (owned : List Bool) (at : ℕ → ℤ) (words : ArcWords) (motion : Mot
       subst (λ (m : Motion). IsSoundMotionOf owned at m) same
       (record {
         of = record {
-          once = subst (λ (es : List (ℕ × ℤ × ℤ)). AllPairs (λ e f. e.0 ≢ f.0) es) (sym for.axes) (ends_once at (end_for at goals) 0 16);
+          once = subst (λ (es : List (ℕ × ℤ × ℤ)). AllPairs (λ e f. e.0 ≢ f.0) es) (sym for.axes) (ends_once at (end_for at goals) 0 AXIS_LIMIT);
           owned = subst (λ (es : List (ℕ × ℤ × ℤ)). All (λ e. has owned e.0 ≡ true) es) (sym for.axes)
-              (ends_all (λ e. has owned e.0 ≡ true) at (end_for at goals) 0 16
+              (ends_all (λ e. has owned e.0 ≡ true) at (end_for at goals) 0 AXIS_LIMIT
               (λ axis to above below is. end_own (has owned axis) (at axis) to (goal_at goals axis) (own_at owned goals axis own (omega arith)) is));
           begins = subst (λ (es : List (ℕ × ℤ × ℤ)). All (λ e. e.1 ≡ at e.0) es) (sym for.axes)
-              (ends_all (λ e. e.1 ≡ at e.0) at (end_for at goals) 0 16 (λ axis to above below is. refl));
+              (ends_all (λ e. e.1 ≡ at e.0) at (end_for at goals) 0 AXIS_LIMIT (λ axis to above below is. refl));
           in_range = subst (λ (es : List (ℕ × ℤ × ℤ)). All (λ e. IsPosition e.2) es) (sym for.axes)
               (All-weaker (λ e. IsPosition e.1 × IsPosition e.2) (λ e. IsPosition e.2) (λ e both. both.1) (ends_from at goals) near);
           sound = λ _. for.sound;
@@ -126,7 +127,7 @@ module _ (owned : List Bool) (at : ℕ → ℤ) (words : ArcWords) (motion : Mot
         by_tests true true false a b c is = absurd cc
         by_tests true true true a b c is =
             let near = in_range sides made c in
-            let are : AreSound made = record { once = ends_once at (end_for at goals) 0 16; in_range = near } in
+            let are : AreSound made = record { once = ends_once at (end_for at goals) 0 AXIS_LIMIT; in_range = near } in
             motion_is goals (arc_given h at words words.radius sides made) b near (given_for sides made are (have_plane sides made c) h at words words.radius) is
 
     between_is : (slots : List (Option ℕ)) (targets : Targets) (plane : Plane) (sides : Option (SideView × SideView))

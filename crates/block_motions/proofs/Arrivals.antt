@@ -1,4 +1,5 @@
 -- The axes of a block stand at the ends of its motion.
+use Rattle.axis_sets.specs.declared.limits.TheConstants.{AXIS_LIMIT}
 use Rattle.std.proofs.Common.{◌≡◌, ◌∙◌, ℕ, ℤ, ◌==◌, Bool, true, false, List, [], ◌∷◌, find, length, Option, None, Some, option_map, unwrap_or, refl, sym, ap, arith}
 use Rattle.std.proofs.lemmas.Bool.{eqb-true}
 use Rattle.axis_sets.specs.Positions.{stands}
@@ -14,7 +15,7 @@ pub between_axes : (rapid : Bool) (ends : EndsView) → axes_of (motion_between 
 between_axes true ends = refl
 between_axes false ends = refl
 
-module _ (old new : List (Option ℤ)) (goals : List (Option Goal)) (long : length goals ≡ 16) (moved : StandsMoved goals old new) where
+module _ (old new : List (Option ℤ)) (goals : List (Option Goal)) (long : length goals ≡ AXIS_LIMIT) (moved : StandsMoved goals old new) where
   end_among : (axis : ℕ) (axes : List (ℕ × ℤ × ℤ)) → axes ≡ ends_from (stands old) goals
       → stands new axis ≡ unwrap_or (option_map (λ (e : ℕ × ℤ × ℤ). e.2) (find (λ e. e.0 == axis) axes)) (stands old axis)
   end_among axis axes is =

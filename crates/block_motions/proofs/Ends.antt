@@ -1,4 +1,5 @@
 -- The ends of a block's motion.
+use Rattle.axis_sets.specs.declared.limits.TheConstants.{AXIS_LIMIT}
 use Rattle.std.proofs.Common.{◌≡◌, ◌≢◌, ◌⊎◌, ◌∙◌, ℕ, zero, suc, ℤ, ◌+◌, ◌<◌, ◌≤◌, ◌==◌, List, length, find, Option, None, Some, option_map, get_or, All, AllPairs, inl, inr, refl, ap, subst, arith}
 use Rattle.std.proofs.Math.ListN.{get_or-eq_default}
 use Rattle.std.proofs.lemmas.Bool.{eq-eqb, ne_eqb, cases_eq}
@@ -53,21 +54,21 @@ pub le_or_lt : (a b : ℕ) → (a ≤ b) ⊎ (b < a)
 le_or_lt a b = grind arith
 
 -- the end of an axis among them is that of its goal
-pub found : (at : ℕ → ℤ) (goals : List (Option Goal)) (axis : ℕ) → length goals ≡ 16
+pub found : (at : ℕ → ℤ) (goals : List (Option Goal)) (axis : ℕ) → length goals ≡ AXIS_LIMIT
     → option_map (λ (e : ℕ × ℤ × ℤ). e.2) (find (λ e. e.0 == axis) (ends_from at goals)) ≡ end_for at goals axis
-found at goals axis long = by_order (le_or_lt 16 axis)
+found at goals axis long = by_order (le_or_lt AXIS_LIMIT axis)
   where
     ends_to : (o : Option ℤ) → option_map (λ (e : ℕ × ℤ × ℤ). e.2) (option_map (λ (to : ℤ). (axis, at axis, to)) o) ≡ o
     ends_to None = refl
     ends_to (Some to) = refl
 
-    by_order : (16 ≤ axis) ⊎ (axis < 16) → option_map (λ (e : ℕ × ℤ × ℤ). e.2) (find (λ e. e.0 == axis) (ends_from at goals)) ≡ end_for at goals axis
+    by_order : (AXIS_LIMIT ≤ axis) ⊎ (axis < AXIS_LIMIT) → option_map (λ (e : ℕ × ℤ × ℤ). e.2) (find (λ e. e.0 == axis) (ends_from at goals)) ≡ end_for at goals axis
     by_order (inl beyond) =
         let past : length goals ≤ axis = omega arith in
         let none : get_or goals axis None ≡ None = get_or-eq_default goals None past in
-        rw (find_beyond at (end_for at goals) 0 16 axis (omega arith), none) refl
+        rw (find_beyond at (end_for at goals) 0 AXIS_LIMIT axis (omega arith), none) refl
     by_order (inr within) =
-        ap (option_map (λ (e : ℕ × ℤ × ℤ). e.2)) (find_within at (end_for at goals) 0 16 axis (omega arith) (omega arith))
+        ap (option_map (λ (e : ℕ × ℤ × ℤ). e.2)) (find_within at (end_for at goals) 0 AXIS_LIMIT axis (omega arith) (omega arith))
         ∙ ends_to (end_for at goals axis)
 
 -- what holds of each end holds of all

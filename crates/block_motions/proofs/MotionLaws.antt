@@ -1,4 +1,5 @@
 -- The motion of a block is one of axes that the channel owns, from where they stand.
+use Rattle.axis_sets.specs.declared.limits.TheConstants.{AXIS_LIMIT}
 use Rattle.std.proofs.Common.{◌≡◌, ◌≢◌, ◌⊎◌, ℕ, suc, ℤ, ◌≤◌, ◌<◌, ◌==◌, ◌+ℤ◌, not, Bool, true, false, cond, List, [], ◌∷◌, length, find, get_or, Option, None, Some, option_map, Result, Ok, Err, All, AllPairs, inl, inr, refl, sym, ap, subst, arith}
 use Rattle.std.proofs.Math.ListN.{get_or-eq_default}
 use Rattle.std.proofs.lemmas.Bool.{leb-true, eq-eqb, ne_eqb}
@@ -51,11 +52,11 @@ module _ (owned : List Bool) (at : ℕ → ℤ) where
   ends_are : (rapid : Bool) (goals : List (Option Goal)) → AllFit goals → are_in_reach owned at goals ≡ true → are_own owned goals ≡ true
       → IsMotionOf owned at (motion_between rapid (record { axes = ends_from at goals }))
   ends_are rapid goals fit reach own =
-      between_is rapid (record { axes = ends_from at goals }) (ends_once at (end_for at goals) 0 16)
-      (ends_all (λ e. has owned e.0 ≡ true) at (end_for at goals) 0 16
+      between_is rapid (record { axes = ends_from at goals }) (ends_once at (end_for at goals) 0 AXIS_LIMIT)
+      (ends_all (λ e. has owned e.0 ≡ true) at (end_for at goals) 0 AXIS_LIMIT
       (λ axis to above below is. end_own (has owned axis) (at axis) to (goal_at goals axis) (own_at owned goals axis own (omega arith)) is))
-      (ends_all (λ e. e.1 ≡ at e.0) at (end_for at goals) 0 16 (λ axis to above below is. refl))
-      (ends_all (λ e. IsPosition e.2) at (end_for at goals) 0 16
+      (ends_all (λ e. e.1 ≡ at e.0) at (end_for at goals) 0 AXIS_LIMIT (λ axis to above below is. refl))
+      (ends_all (λ e. IsPosition e.2) at (end_for at goals) 0 AXIS_LIMIT
       (λ axis to above below is. end_fit (has owned axis) (at axis) to (goal_at goals axis) (fit axis) (reach_at owned at goals axis reach (omega arith)) (own_at owned goals axis own (omega arith)) is))
 
   any_is : (rapid : Bool) (ends : List (ℕ × ℤ × ℤ)) (motion : Motion) → IsMotionOf owned at (motion_between rapid (record { axes = ends })) → motion_if_any rapid ends ≡ Some motion

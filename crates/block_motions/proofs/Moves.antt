@@ -1,4 +1,5 @@
 -- The axes of a block, moved one after another.
+use Rattle.axis_sets.specs.declared.limits.TheConstants.{AXIS_LIMIT}
 use Rattle.std.proofs.Common.{◌≡◌, ◌≢◌, ◌∙◌, ℕ, ℤ, pos, ◌+◌, ◌<◌, ◌≤◌, ◌==◌, true, cond, List, [], ◌∷◌, ◌++◌, length, length-append, get_or, below_more, Option, None, Some, option_map, unwrap_or, refl, sym, ap, arith}
 use Rattle.std.proofs.lemmas.Bool.{eq-eqb, ne_eqb}
 use Rattle.std.proofs.lemmas.List.{get_or_default}
@@ -29,7 +30,7 @@ pub record Moves (goals : List (Option Goal)) (old : List (Option ℤ)) (index :
 
 module _ (goals : List (Option Goal)) (old : List (Option ℤ)) (index : ℕ) (at : List (Option ℤ)) (axes : List (ℕ × ℤ × ℤ)) (moves : Moves goals old index at axes) where
   -- one axis more moves
-  pub moves_on : (goal : Goal) (end start : ℤ) (d : Option Goal) (new : List (Option ℤ)) → index < 16 → length goals ≡ 16 → get_or goals index d ≡ Some goal → end ≡ end_from start goal
+  pub moves_on : (goal : Goal) (end start : ℤ) (d : Option Goal) (new : List (Option ℤ)) → index < AXIS_LIMIT → length goals ≡ AXIS_LIMIT → get_or goals index d ≡ Some goal → end ≡ end_from start goal
       → start ≡ stands at index → Puts index end at new → Moves goals old (index + 1) new (axes ++ (index, start, end) ∷ [])
   moves_on goal end start d new inside long is to from puts =
       let begin : start ≡ stands old index = from ∙ moves.kept index (omega arith) in
@@ -47,7 +48,7 @@ module _ (goals : List (Option Goal)) (old : List (Option ℤ)) (index : ℕ) (a
       }
 
   -- one axis more stays
-  pub moves_not : (d : Option Goal) → index < 16 → length goals ≡ 16 → get_or goals index d ≡ None → Moves goals old (index + 1) at axes
+  pub moves_not : (d : Option Goal) → index < AXIS_LIMIT → length goals ≡ AXIS_LIMIT → get_or goals index d ≡ None → Moves goals old (index + 1) at axes
   moves_not d inside long is =
       let here : end_for (stands old) goals index ≡ None = ap (option_map (end_from (stands old index))) (get_or_default goals index None d (omega arith) ∙ is) in
       record {
@@ -60,7 +61,7 @@ module _ (goals : List (Option Goal)) (old : List (Option ℤ)) (index : ℕ) (a
       }
 
   -- an axis that has not moved yet reaches its goal
-  pub reaches : (goal : Goal) (start : ℤ) (d : Option Goal) → index < 16 → length goals ≡ 16 → get_or goals index d ≡ Some goal → start ≡ stands at index
+  pub reaches : (goal : Goal) (start : ℤ) (d : Option Goal) → index < AXIS_LIMIT → length goals ≡ AXIS_LIMIT → get_or goals index d ≡ Some goal → start ≡ stands at index
       → AreReached (stands old) goals → is_goal_in_reach true start goal ≡ true
   reaches goal start d inside long is from reached =
       let begin : start ≡ stands old index = from ∙ moves.kept index (omega arith) in

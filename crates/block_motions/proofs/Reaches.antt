@@ -1,4 +1,5 @@
 -- Goals that are in reach, and those of owned axes.
+use Rattle.axis_sets.specs.declared.limits.TheConstants.{AXIS_LIMIT}
 use Rattle.std.proofs.Common.{◌≡◌, ℕ, zero, suc, ℤ, ◌+◌, ◌<◌, ◌≤◌, ◌&&◌, Bool, true, false, List, Option, None, Some, refl, ap, subst, sym, ◌∙◌, ◌⊎◌, inl, inr, arith}
 use Rattle.std.proofs.lemmas.Bool.{and_parts, and_from, and_left, and_right, cases_eq}
 use Rattle.std.specs.List.{list_all, range_with_len}
@@ -33,23 +34,23 @@ module _ (f : ℕ → Bool) where
 -- ---- goals
 
 module _ (owned : List Bool) (goals : List (Option Goal)) where
-  pub own_not : (axis : ℕ) → axis < 16 → is_own (has owned axis) (goal_at goals axis) ≡ false → are_own owned goals ≡ false
+  pub own_not : (axis : ℕ) → axis < AXIS_LIMIT → is_own (has owned axis) (goal_at goals axis) ≡ false → are_own owned goals ≡ false
   unfolding are_own
-  own_not axis below fails = not_all (λ axis. is_own (has owned axis) (goal_at goals axis)) 0 16 axis (omega arith) (omega arith) fails
+  own_not axis below fails = not_all (λ axis. is_own (has owned axis) (goal_at goals axis)) 0 AXIS_LIMIT axis (omega arith) (omega arith) fails
 
-  pub own_at : (axis : ℕ) → are_own owned goals ≡ true → axis < 16 → is_own (has owned axis) (goal_at goals axis) ≡ true
+  pub own_at : (axis : ℕ) → are_own owned goals ≡ true → axis < AXIS_LIMIT → is_own (has owned axis) (goal_at goals axis) ≡ true
   unfolding are_own
-  own_at axis all below = all_at (λ axis. is_own (has owned axis) (goal_at goals axis)) 0 16 axis all (omega arith) (omega arith)
+  own_at axis all below = all_at (λ axis. is_own (has owned axis) (goal_at goals axis)) 0 AXIS_LIMIT axis all (omega arith) (omega arith)
 
 module _ (owned : List Bool) (at : ℕ → ℤ) (goals : List (Option Goal)) where
-  pub reach_at : (axis : ℕ) → are_in_reach owned at goals ≡ true → axis < 16 → is_in_reach (has owned axis) (at axis) (goal_at goals axis) ≡ true
+  pub reach_at : (axis : ℕ) → are_in_reach owned at goals ≡ true → axis < AXIS_LIMIT → is_in_reach (has owned axis) (at axis) (goal_at goals axis) ≡ true
   unfolding are_in_reach
-  reach_at axis all below = all_at (λ axis. is_in_reach (has owned axis) (at axis) (goal_at goals axis)) 0 16 axis all (omega arith) (omega arith)
+  reach_at axis all below = all_at (λ axis. is_in_reach (has owned axis) (at axis) (goal_at goals axis)) 0 AXIS_LIMIT axis all (omega arith) (omega arith)
 
   -- one that is not reached
-  pub reach_not : (axis : ℕ) → axis < 16 → is_in_reach (has owned axis) (at axis) (goal_at goals axis) ≡ false → are_in_reach owned at goals ≡ false
+  pub reach_not : (axis : ℕ) → axis < AXIS_LIMIT → is_in_reach (has owned axis) (at axis) (goal_at goals axis) ≡ false → are_in_reach owned at goals ≡ false
   unfolding are_in_reach
-  reach_not axis below fails = not_all (λ axis. is_in_reach (has owned axis) (at axis) (goal_at goals axis)) 0 16 axis (omega arith) (omega arith) fails
+  reach_not axis below fails = not_all (λ axis. is_in_reach (has owned axis) (at axis) (goal_at goals axis)) 0 AXIS_LIMIT axis (omega arith) (omega arith) fails
 
   -- where all goals are in reach and of owned axes, each axis reaches its own
   pub are_reached : are_in_reach owned at goals ≡ true → are_own owned goals ≡ true → AreReached at goals

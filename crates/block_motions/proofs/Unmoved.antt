@@ -1,4 +1,5 @@
 -- A block that programs no axis has no goals, no alarm and no motion.
+use Rattle.axis_sets.specs.declared.limits.TheConstants.{AXIS_LIMIT}
 use Rattle.std.proofs.Common.{◌≡◌, ◌+◌, ℕ, zero, suc, ℤ, Bool, true, false, List, [], ◌∷◌, map, get_or, Option, None, Some, option_map, Ok, refl, ap}
 use Rattle.std.specs.List.{filter_map, range_with_len}
 use Rattle.axis_sets.specs.Sets.{has}
@@ -31,15 +32,15 @@ no_items f low (suc n) none = rw (none low) (no_items f (low + 1) n none)
 module _ (owned : List Bool) (at : ℕ → ℤ) (goals : List (Option Goal)) (none : (k : ℕ) → goal_at goals k ≡ None) where
   reached : are_in_reach owned at goals ≡ true
   unfolding are_in_reach
-  reached = all_from (λ axis. is_in_reach (has owned axis) (at axis) (goal_at goals axis)) 0 16 (λ k from below. ap (is_in_reach (has owned k) (at k)) (none k))
+  reached = all_from (λ axis. is_in_reach (has owned axis) (at axis) (goal_at goals axis)) 0 AXIS_LIMIT (λ k from below. ap (is_in_reach (has owned k) (at k)) (none k))
 
   own : are_own owned goals ≡ true
   unfolding are_own
-  own = all_from (λ axis. is_own (has owned axis) (goal_at goals axis)) 0 16 (λ k from below. ap (is_own (has owned k)) (none k))
+  own = all_from (λ axis. is_own (has owned axis) (goal_at goals axis)) 0 AXIS_LIMIT (λ k from below. ap (is_own (has owned k)) (none k))
 
   no_ends : ends_from at goals ≡ []
   no_ends =
-      no_items (λ axis. option_map (λ end. (axis, at axis, end)) (end_for at goals axis)) 0 16
+      no_items (λ axis. option_map (λ end. (axis, at axis, end)) (end_for at goals axis)) 0 AXIS_LIMIT
       (λ k. ap (λ goal. option_map (λ end. (k, at k, end)) (option_map (end_from (at k)) goal)) (none k))
 
   unmoved_to : (rapid : Bool) → straight_motion_to owned at rapid goals ≡ Ok None

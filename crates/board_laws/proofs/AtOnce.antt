@@ -1,4 +1,5 @@
 -- Rules 1 to 3 one after another are all at once, on boards.
+use Rattle.axis_sets.specs.declared.limits.TheConstants.{CHANNEL_LIMIT}
 use Rattle.std.proofs.Common.{◌≡◌, ℕ, ℤ, ◌==◌, ◌&&◌, ◌||◌, Bool, true, false, List, [], ◌∷◌, filter, Option, None, Some, inl, inr, refl, sym, ap, ap₂, ◌∙◌}
 use Rattle.std.proofs.lemmas.Bool.{cases_Bool, eqb-true, eq-eqb, and_parts, or_cases, or_left, or_right, true≢false}
 use Rattle.std.specs.List.{list_all}
@@ -27,7 +28,7 @@ abbrev pub went : State → ℕ → Bool
 went t c = among (channels_in (taken_in t).goings) c
 
 pub takings_of : (t : State) → Zones (board_of t) → AllTaken (before_takings t) (taken_in t)
-takings_of t zs = all_taken 8 (before_takings t) (zones_goes (board_of t) zs)
+takings_of t zs = all_taken CHANNEL_LIMIT (before_takings t) (zones_goes (board_of t) zs)
 
 pub goes_state : (t : State) (c : ℕ) → among (goers_at_once (board_of t)) c ≡ true → (before_takings t).state c ≡ IsRunning (grant_with (board_of t) c no_positions)
 unfolding state_after_goes

@@ -1,4 +1,5 @@
 -- The board after all that goes on.
+use Rattle.axis_sets.specs.declared.limits.TheConstants.{CHANNEL_LIMIT}
 use Rattle.std.proofs.Math.Path.{fun_ext}
 use Rattle.std.proofs.Common.{◌≡◌, ℕ, ◌⊎◌, ◌&&◌, ◌||◌, not, Bool, true, false, Option, None, Some, inl, inr, refl, sym, ap, ap₂, ◌∙◌}
 use Rattle.std.proofs.lemmas.Bool.{cases_Bool, and_parts, and_from, true≢false}
@@ -203,5 +204,5 @@ settled_board t clean zs over =
     (λ c. state_after t c clean zs over)
     (λ c. ap (λ (f : ℕ → Option ℕ). f c) all.program ∙ program_after t c)
     axis
-    (holder_by_axes (taken_in t).board (settle t) (zones_takings 8 (before_takings t) (zones_goes (board_of t) zs)) all.start axis)
+    (holder_by_axes (taken_in t).board (settle t) (zones_takings CHANNEL_LIMIT (before_takings t) (zones_goes (board_of t) zs)) all.start axis)
     (λ z. ap (λ (f : ℕ → Bool). f z) all.on)

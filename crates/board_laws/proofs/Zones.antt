@@ -1,4 +1,5 @@
 -- A zone goes with its axes, on boards.
+use Rattle.axis_sets.specs.declared.limits.TheConstants.{CHANNEL_LIMIT}
 use Rattle.std.proofs.Math.Path.{fun_ext}
 use Rattle.std.proofs.Common.{◌≡◌, ℕ, ℤ, zero, suc, ◌==◌, ◌&&◌, Bool, true, false, cond, List, [], ◌∷◌, map, Option, None, Some, refl, sym, ap, ap₂, ◌∙◌}
 use Rattle.std.proofs.lemmas.Bool.{eq-eqb, or_left}
@@ -188,7 +189,7 @@ zones_takings (suc n) b k = next (zones_takings n) (next_taker b)
     next rest (Some c) = rest (after_taking b c) (zones_taking b c k)
 
 pub zones_step : (b : Board) (c : ℕ) (step : Step) → Zones b → Zones (after_step b c step)
-zones_step b c step k = zones_takings 8 (after_goes (after_own_part b c step)) (zones_goes (after_own_part b c step) (zones_part b c step k))
+zones_step b c step k = zones_takings CHANNEL_LIMIT (after_goes (after_own_part b c step)) (zones_goes (after_own_part b c step) (zones_part b c step k))
 
 owner_at_first : (owner : Option ℕ) (position : ℤ) → owner_of (ownership_of owner position) ≡ owner
 owner_at_first (Some c) position = refl

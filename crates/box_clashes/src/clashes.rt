@@ -13,7 +13,7 @@ use crate::ways::way_for;
 use arrayvec::ArrayVec;
 use box_reach::{Way, common_box, most_near, parting_depth};
 use job_types::Job;
-use swept_boxes::Box3;
+use swept_boxes::{Box3, PIECE_LIMIT};
 use sync_types::Run;
 use told_places::{Meeting, Place};
 
@@ -77,7 +77,7 @@ fn margin_of(job: &Job, run: &Run, met: &Meeting) -> Option<i64>
 }
 
 /// The boxes of a place at each depth.
-fn boxes_by_depth(job: &Job, run: &Run, place: &Place) -> [ArrayVec<Box3, 80>; 5]
+fn boxes_by_depth(job: &Job, run: &Run, place: &Place) -> [ArrayVec<Box3, PIECE_LIMIT>; 5]
     requires { All (All IsFit) run.now.items }
     ensures { map (λ l. l.items) result ≡ model.boxes_by_depth job.now run.now place.now }
 {

@@ -11,12 +11,9 @@ use arrayvec::ArrayVec;
 use out_of_memory::NoMemory;
 use std::alloc::Global;
 use std::marker::Model;
-use swept_boxes::Box3;
+use swept_boxes::{Box3, PIECE_LIMIT};
 
-/// How many pieces there are at most.
-pub const PIECE_LIMIT: usize = 80;
-
-/// At most 80 boxes in their order, with groups over them as in a tree.
+/// At most as many boxes as a motion has pieces, in their order, with groups over them as in a tree.
 #[derive(Drop)]
 pub struct PieceTree {
     pub(crate) boxes: ArrayVec<Box3, PIECE_LIMIT>,

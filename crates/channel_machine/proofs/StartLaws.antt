@@ -10,7 +10,7 @@ use Rattle.std.proofs.lemmas.Bool.{eqb-true, eq-eqb, ne_eqb, leb-true, leb-false
 use Rattle.std.proofs.lemmas.Option.{slice_get_within, get_or_from_slice_get}
 use Rattle.std.proofs.lemmas.Slice.Eq.{bytes_eq-Decides}
 use Rattle.axis_sets.specs.Sets.{has}
-use Rattle.axis_sets.specs.declared.limits.TheConstants.{AXIS_LIMIT, CHANNEL_LIMIT, ZONE_LIMIT}
+use Rattle.axis_sets.specs.declared.limits.TheConstants.{AXIS_LIMIT, CHANNEL_LIMIT, CHANNEL_PLACES, ZONE_LIMIT, ZONE_PLACES}
 use Rattle.number_laws.proofs.Lists.{All-found, filter_map-one, found_passes, range_with_len-push}
 use Rattle.job_types.specs.Axes as axes
 use Rattle.job_types.specs.Job.{JobView, ProgramView}
@@ -164,10 +164,10 @@ channel_keyed job n e is = by (line_of_channel job n) refl is
     by None at is = absurd cc
     by (Some line) at is = let same : first_channel job line ≡ e = cc in ap (λ x. x.0) (sym same) ∙ channel_of_line job n line at
 
-no_channel : (job : JobView) → IsSoundJob job → (c : ℕ) → (c < 1) ⊎ (9 ≤ c) → channel_entry job c ≡ None
+no_channel : (job : JobView) → IsSoundJob job → (c : ℕ) → (c < 1) ⊎ (CHANNEL_PLACES ≤ c) → channel_entry job c ≡ None
 no_channel job sound c outside = by (line_of_channel job c) refl
   where
-    far : (c < 1) ⊎ (9 ≤ c) → 1 ≤ c → c ≤ 8 → ⊥
+    far : (c < 1) ⊎ (CHANNEL_PLACES ≤ c) → 1 ≤ c → c ≤ CHANNEL_LIMIT → ⊥
     far (inl below) low high = omega arith
     far (inr above) low high = omega arith
 
@@ -176,24 +176,24 @@ no_channel job sound c outside = by (line_of_channel job c) refl
     by (Some line) at =
         let number : line.channel ≡ c = channel_of_line job c line at in
         let low : 1 ≤ line.channel = All-found (λ (l : ChannelLine). 1 ≤ l.channel) (λ l. l.channel == c) job.channels line sound.low_channels at in
-        let high : line.channel ≤ 8 = All-found (λ (l : ChannelLine). l.channel ≤ CHANNEL_LIMIT) (λ l. l.channel == c) job.channels line sound.high_channels at in
+        let high : line.channel ≤ CHANNEL_LIMIT = All-found (λ (l : ChannelLine). l.channel ≤ CHANNEL_LIMIT) (λ l. l.channel == c) job.channels line sound.high_channels at in
         absurd (far outside (omega arith) (omega arith))
 
 pub channel_found : (job : JobView) → IsSoundJob job → (c : ℕ) → find (λ e. e.0 == c) (first_channels job) ≡ channel_entry job c
 unfolding first_channels
-channel_found job sound c = by (nat_le 1 c) (nat_le c 8) refl refl
+channel_found job sound c = by (nat_le 1 c) (nat_le c CHANNEL_LIMIT) refl refl
   where
-    by : (low high : Bool) → nat_le 1 c ≡ low → nat_le c 8 ≡ high → find (λ e. e.0 == c) (filter_map (channel_entry job) (range_with_len 1 8)) ≡ channel_entry job c
+    by : (low high : Bool) → nat_le 1 c ≡ low → nat_le c CHANNEL_LIMIT ≡ high → find (λ e. e.0 == c) (filter_map (channel_entry job) (range_with_len 1 CHANNEL_LIMIT)) ≡ channel_entry job c
     by true true low high =
         let at_least : 1 ≤ c = leb-true 1 c low in
-        let at_most : c ≤ 8 = leb-true c 8 high in
-        found_there (λ e. e.0) (channel_entry job) (channel_keyed job) 1 8 c at_least (omega arith)
+        let at_most : c ≤ CHANNEL_LIMIT = leb-true c CHANNEL_LIMIT high in
+        found_there (λ e. e.0) (channel_entry job) (channel_keyed job) 1 CHANNEL_LIMIT c at_least (omega arith)
     by false high low high_is =
         let below : c < 1 = leb-false 1 c low in
-        none_here (λ e. e.0) (channel_entry job) (channel_keyed job) 1 8 c (inl below) ∙ sym (no_channel job sound c (inl below))
+        none_here (λ e. e.0) (channel_entry job) (channel_keyed job) 1 CHANNEL_LIMIT c (inl below) ∙ sym (no_channel job sound c (inl below))
     by true false low high =
-        let above : 8 < c = leb-false c 8 high in
-        none_here (λ e. e.0) (channel_entry job) (channel_keyed job) 1 8 c (inr (omega arith)) ∙ sym (no_channel job sound c (inr (omega arith)))
+        let above : CHANNEL_LIMIT < c = leb-false c CHANNEL_LIMIT high in
+        none_here (λ e. e.0) (channel_entry job) (channel_keyed job) 1 CHANNEL_LIMIT c (inr (omega arith)) ∙ sym (no_channel job sound c (inr (omega arith)))
 
 declared_there : (job : JobView) → IsSoundJob job → (c : ℕ) → IsDeclared job c → start.has_channel (start_of job) c ≡ true
 unfolding start_of
@@ -212,16 +212,16 @@ axis_keyed job n e is = by (slice_get job.axes n) is
 
 pub axis_found : (job : JobView) → IsSoundJob job → (x : ℕ) → find (λ e. e.0 == x) (first_axes job) ≡ axis_entry job x
 unfolding first_axes
-axis_found job sound x = by (nat_lt x 16) refl
+axis_found job sound x = by (nat_lt x AXIS_LIMIT) refl
   where
-    by : (low : Bool) → nat_lt x 16 ≡ low → find (λ e. e.0 == x) (filter_map (axis_entry job) (range_with_len 0 16)) ≡ axis_entry job x
+    by : (low : Bool) → nat_lt x AXIS_LIMIT ≡ low → find (λ e. e.0 == x) (filter_map (axis_entry job) (range_with_len 0 AXIS_LIMIT)) ≡ axis_entry job x
     by true low =
-        let below : x < 16 = ltb-true x 16 low in
-        found_there (λ e. e.0) (axis_entry job) (axis_keyed job) 0 16 x (omega arith) (omega arith)
+        let below : x < AXIS_LIMIT = ltb-true x AXIS_LIMIT low in
+        found_there (λ e. e.0) (axis_entry job) (axis_keyed job) 0 AXIS_LIMIT x (omega arith) (omega arith)
     by false low =
-        let above : 16 ≤ x = ltb-false x 16 low in
-        let few : length job.axes ≤ 16 = sound.few_axes in
-        none_here (λ e. e.0) (axis_entry job) (axis_keyed job) 0 16 x (inr (omega arith))
+        let above : AXIS_LIMIT ≤ x = ltb-false x AXIS_LIMIT low in
+        let few : length job.axes ≤ AXIS_LIMIT = sound.few_axes in
+        none_here (λ e. e.0) (axis_entry job) (axis_keyed job) 0 AXIS_LIMIT x (inr (omega arith))
         ∙ sym (ap (option_map (first_axis x)) (none_past job.axes x (omega arith)))
 
 pub owner_is : (job : JobView) → IsSoundJob job → (x : ℕ) → start.first_owner (start_of job) x ≡ axes.first_owner job x
@@ -263,10 +263,10 @@ zone_keyed job n e is = by (line_of_zone job n) refl is
 zone_sound : (job : JobView) → IsSoundJob job → (z : ℕ) (zone : ZoneLine) → line_of_zone job z ≡ Some zone → IsSoundZone job zone
 zone_sound job sound z zone at = All-found (IsSoundZone job) (λ (l : ZoneLine). l.zone == z) job.zones zone sound.zones at
 
-no_zone : (job : JobView) → IsSoundJob job → (z : ℕ) → (z < 1) ⊎ (33 ≤ z) → zone_entry job z ≡ None
+no_zone : (job : JobView) → IsSoundJob job → (z : ℕ) → (z < 1) ⊎ (ZONE_PLACES ≤ z) → zone_entry job z ≡ None
 no_zone job sound z outside = by (line_of_zone job z) refl
   where
-    far : (z < 1) ⊎ (33 ≤ z) → 1 ≤ z → z ≤ 32 → ⊥
+    far : (z < 1) ⊎ (ZONE_PLACES ≤ z) → 1 ≤ z → z ≤ ZONE_LIMIT → ⊥
     far (inl below) low high = omega arith
     far (inr above) low high = omega arith
 
@@ -275,29 +275,29 @@ no_zone job sound z outside = by (line_of_zone job z) refl
     by (Some zone) at =
         let number : zone.zone ≡ z = zone_of_line job z zone at in
         let low : 1 ≤ zone.zone = (zone_sound job sound z zone at).low_number in
-        let high : zone.zone ≤ 32 = (zone_sound job sound z zone at).high_number in
+        let high : zone.zone ≤ ZONE_LIMIT = (zone_sound job sound z zone at).high_number in
         absurd (far outside (omega arith) (omega arith))
 
 pub zone_found : (job : JobView) → IsSoundJob job → (z : ℕ) → find (λ e. e.0 == z) (first_zones job) ≡ zone_entry job z
 unfolding first_zones
-zone_found job sound z = by (nat_le 1 z) (nat_le z 32) refl refl
+zone_found job sound z = by (nat_le 1 z) (nat_le z ZONE_LIMIT) refl refl
   where
-    by : (low high : Bool) → nat_le 1 z ≡ low → nat_le z 32 ≡ high → find (λ e. e.0 == z) (filter_map (zone_entry job) (range_with_len 1 32)) ≡ zone_entry job z
+    by : (low high : Bool) → nat_le 1 z ≡ low → nat_le z ZONE_LIMIT ≡ high → find (λ e. e.0 == z) (filter_map (zone_entry job) (range_with_len 1 ZONE_LIMIT)) ≡ zone_entry job z
     by true true low high =
         let at_least : 1 ≤ z = leb-true 1 z low in
-        let at_most : z ≤ 32 = leb-true z 32 high in
-        found_there (λ e. e.0) (zone_entry job) (zone_keyed job) 1 32 z at_least (omega arith)
+        let at_most : z ≤ ZONE_LIMIT = leb-true z ZONE_LIMIT high in
+        found_there (λ e. e.0) (zone_entry job) (zone_keyed job) 1 ZONE_LIMIT z at_least (omega arith)
     by false high low high_is =
         let below : z < 1 = leb-false 1 z low in
-        none_here (λ e. e.0) (zone_entry job) (zone_keyed job) 1 32 z (inl below) ∙ sym (no_zone job sound z (inl below))
+        none_here (λ e. e.0) (zone_entry job) (zone_keyed job) 1 ZONE_LIMIT z (inl below) ∙ sym (no_zone job sound z (inl below))
     by true false low high =
-        let above : 32 < z = leb-false z 32 high in
-        none_here (λ e. e.0) (zone_entry job) (zone_keyed job) 1 32 z (inr (omega arith)) ∙ sym (no_zone job sound z (inr (omega arith)))
+        let above : ZONE_LIMIT < z = leb-false z ZONE_LIMIT high in
+        none_here (λ e. e.0) (zone_entry job) (zone_keyed job) 1 ZONE_LIMIT z (inr (omega arith)) ∙ sym (no_zone job sound z (inr (omega arith)))
 
 -- an axis that carries a zone
 carrier_has : (zone : ZoneLine) (x : ℕ) → has (carriers zone) x ≡ true → has_axis zone x ≡ true
 unfolding carriers
-carrier_has zone x is = let same : 0 + x ≡ x = omega arith in sym (ap (has_axis zone) same) ∙ among 0 16 x is
+carrier_has zone x is = let same : 0 + x ≡ x = omega arith in sym (ap (has_axis zone) same) ∙ among 0 AXIS_LIMIT x is
   where
     among : (a k i : ℕ) → has (map (has_axis zone) (range_with_len a k)) i ≡ true → has_axis zone (a + i) ≡ true
     among a zero i is = absurd (true≢false (sym is))
@@ -362,15 +362,15 @@ zone_axis job sound z x carries = rw (zone_found job sound z) (by (line_of_zone 
 
 channels_once : (job : JobView) → stand_once (map (λ line. line.0) (first_channels job)) ≡ true
 unfolding first_channels
-channels_once job = once (λ e. e.0) (channel_entry job) (channel_keyed job) 1 8
+channels_once job = once (λ e. e.0) (channel_entry job) (channel_keyed job) 1 CHANNEL_LIMIT
 
 axes_once : (job : JobView) → stand_once (map (λ line. line.0) (first_axes job)) ≡ true
 unfolding first_axes
-axes_once job = once (λ e. e.0) (axis_entry job) (axis_keyed job) 0 16
+axes_once job = once (λ e. e.0) (axis_entry job) (axis_keyed job) 0 AXIS_LIMIT
 
 zones_once : (job : JobView) → stand_once (map (λ line. line.0) (first_zones job)) ≡ true
 unfolding first_zones
-zones_once job = once (λ e. e.0) (zone_entry job) (zone_keyed job) 1 32
+zones_once job = once (λ e. e.0) (zone_entry job) (zone_keyed job) 1 ZONE_LIMIT
 
 pub start_sound : (job : JobView) → IsSoundJob job → IsSound (start_of job)
 unfolding start_of

@@ -7,6 +7,7 @@ ghost use Rattle.job_types.specs.Axes.{is_of};
 ghost use Rattle.job_types.specs.Zones.{has_axis, is_carrier};
 ghost use Rattle.nc_blocks.specs.Indices.{StatementFits};
 ghost use Rattle.nc_blocks.specs.Statement.{statement_view};
+ghost use Rattle.job_lines.specs.declared.limits.TheConstants.{PROGRAM_LIMIT};
 
 use axis_sets::{AXIS_LIMIT, AxisId, AxisSet, ChannelId, ZoneId};
 use block_effects::{ChannelAxes, Parameters};
@@ -24,7 +25,7 @@ pub(crate) struct Coordination<'a> {
     pub(crate) channel: ChannelId,
     /// The axes in its slots, and those that it owns.
     pub(crate) axes: ChannelAxes,
-    ghost few: { length job.now.programs ≤ 65536 },
+    ghost few: { length job.now.programs ≤ PROGRAM_LIMIT },
 }
 
 /// Whether a CHANNEL line declares the channel.
@@ -198,7 +199,7 @@ pub(crate) fn request_in(
     parameters: &Parameters,
     stmt: &Stmt,
 ) -> Result<Option<Request>, u16>
-    requires programs { length job.now.programs ≤ 65536 }
+    requires programs { length job.now.programs ≤ PROGRAM_LIMIT }
     requires fits { StatementFits (statement_view stmt.now) }
     ensures { result ≡ model.request_in (model.setting_in job.now channel axes.now.slots axes.now.owned)
         (parameter_in parameters.now) (statement_view stmt.now) }

@@ -8,6 +8,7 @@ ghost use Rattle.channel_machine.specs.Levels.{LevelsFit};
 ghost use Rattle.channel_machine.specs.Passing.{Comes, IsPassing, NoneComes};
 ghost use Rattle.channel_machine.specs.Run as model;
 ghost use Rattle.channel_machine.specs.Run.{SurroundingsView, Channel};
+ghost use Rattle.job_lines.specs.declared.limits.TheConstants.{PROGRAM_LIMIT};
 
 use crate::limits::BLOCK_LIMIT;
 use crate::local::{Local, State};
@@ -67,7 +68,7 @@ fn has_ended(halt: &Option<Step>) -> bool
 /// Executes the block at which control stands in a channel with this state.
 fn pass_state(alloc: Global, job: &Job, state: &mut State) -> Result<Passing, NoMemory>
     requires blocks { BlocksFit job.now }
-    requires programs { length job.now.programs ≤ 65536 }
+    requires programs { length job.now.programs ≤ PROGRAM_LIMIT }
     requires fit { IfSome state.old.levels (LevelsFit job.now.skip job.now.programs) }
     requires few { state.old.count ≤ BLOCK_LIMIT }
     ensures told { IfOk result (λ p. (s : SurroundingsView) (c : Channel)
@@ -96,7 +97,7 @@ fn pass_state(alloc: Global, job: &Job, state: &mut State) -> Result<Passing, No
 /// Where the segment ends with it, the channel may be resumed with a grant. The only error is want of memory.
 pub fn pass_block(alloc: Global, job: &Job, local: &mut Local) -> Result<Passing, NoMemory>
     requires blocks { BlocksFit job.now }
-    requires programs { length job.now.programs ≤ 65536 }
+    requires programs { length job.now.programs ≤ PROGRAM_LIMIT }
     requires fit { IfSome local.old.levels (LevelsFit job.now.skip job.now.programs) }
     requires few { local.old.count ≤ BLOCK_LIMIT }
     ensures told { IfOk result (λ p. (s : SurroundingsView) (c : Channel)

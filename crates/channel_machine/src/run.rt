@@ -14,6 +14,7 @@ ghost use Rattle.channel_machine.specs.Levels.{LevelsFit, levels_after, lines_of
 ghost use Rattle.channel_machine.specs.Run as model;
 ghost use Rattle.sync_types.specs.declared.Part.TheVariants as part;
 ghost use Rattle.channel_machine.specs.Run.{SurroundingsView, Channel, channel_after_grant, segment_of};
+ghost use Rattle.job_lines.specs.declared.limits.TheConstants.{PROGRAM_LIMIT};
 
 use crate::coordination::request_in;
 use crate::levels::{Levels, flow_of, follow_on};
@@ -318,7 +319,7 @@ fn perform(
     request: &Option<Request>,
     halt: &mut Option<Step>,
 ) -> Result<(), NoMemory>
-    requires programs { length job.now.programs ≤ 65536 }
+    requires programs { length job.now.programs ≤ PROGRAM_LIMIT }
     requires opener { StatementFits (statement_view next.opener.now) }
     requires fits { StatementFits (statement_view next.block.now.stmt) }
     requires fit { IfSome state.old.levels (LevelsFit job.now.skip job.now.programs) }
@@ -380,7 +381,7 @@ pub(crate) fn advance(
     halt: &mut Option<Step>,
 ) -> Result<(), NoMemory>
     requires blocks { BlocksFit job.now }
-    requires programs { length job.now.programs ≤ 65536 }
+    requires programs { length job.now.programs ≤ PROGRAM_LIMIT }
     requires fit { IfSome state.old.levels (LevelsFit job.now.skip job.now.programs) }
     requires few { state.old.count ≤ BLOCK_LIMIT }
     requires goes { halt.old ≡ None }
@@ -432,7 +433,7 @@ pub(crate) fn advance(
 /// is over: control is nowhere, and one more segment is alarm 9.
 pub fn run_segment(alloc: Global, job: &Job, local: &Local) -> Result<Segment, NoMemory>
     requires blocks { BlocksFit job.now }
-    requires programs { length job.now.programs ≤ 65536 }
+    requires programs { length job.now.programs ≤ PROGRAM_LIMIT }
     requires fit { IfSome local.now.levels (LevelsFit job.now.skip job.now.programs) }
     requires few { local.now.count ≤ BLOCK_LIMIT }
     ensures told { IfOk result (λ g. (s : SurroundingsView) (c : Channel)
@@ -451,7 +452,7 @@ pub fn run_segment(alloc: Global, job: &Job, local: &Local) -> Result<Segment, N
 /// The alarms are those of `run_segment`.
 pub fn run_on(alloc: Global, job: &Job, local: Local, grant: &Grant) -> Result<Segment, NoMemory>
     requires blocks { BlocksFit job.now }
-    requires programs { length job.now.programs ≤ 65536 }
+    requires programs { length job.now.programs ≤ PROGRAM_LIMIT }
     requires fit { IfSome local.levels (LevelsFit job.now.skip job.now.programs) }
     requires few { local.count ≤ BLOCK_LIMIT }
     ensures told { IfOk result (λ g. (s : SurroundingsView) (c : Channel)
@@ -469,7 +470,7 @@ pub fn run_on(alloc: Global, job: &Job, local: Local, grant: &Grant) -> Result<S
 /// The segment of a channel whose state is given away: nothing of it is copied.
 fn run_state(alloc: Global, job: &Job, start: Box<State>) -> Result<Segment, NoMemory>
     requires blocks { BlocksFit job.now }
-    requires programs { length job.now.programs ≤ 65536 }
+    requires programs { length job.now.programs ≤ PROGRAM_LIMIT }
     requires fit { IfSome start.value.levels (LevelsFit job.now.skip job.now.programs) }
     requires few { start.value.count ≤ BLOCK_LIMIT }
     ensures told { IfOk result (λ g. (s : SurroundingsView) (c : Channel)

@@ -66,7 +66,7 @@ fn channel_entry(job: &Job, number: u8) -> Option<(ChannelId, Option<u16>, bool)
 
 /// The channels, in the order of their numbers.
 #[tactic(auto, unfolding(crate::specs::StartStates::first_channels))]
-fn first_channels(job: &Job) -> ArrayVec<(ChannelId, Option<u16>, bool), 8>
+fn first_channels(job: &Job) -> ArrayVec<(ChannelId, Option<u16>, bool), CHANNEL_LIMIT>
     requires { length job.now.programs ≤ PROGRAM_LIMIT }
     ensures { result.items ≡ model.first_channels job.now }
 {
@@ -99,7 +99,7 @@ fn axis_entry(job: &Job, index: u8) -> Option<(AxisId, Option<ChannelId>, Um)>
 
 /// The axes, in the order of their lines.
 #[tactic(auto, unfolding(crate::specs::StartStates::first_axes))]
-fn first_axes(job: &Job) -> ArrayVec<(AxisId, Option<ChannelId>, Um), 16>
+fn first_axes(job: &Job) -> ArrayVec<(AxisId, Option<ChannelId>, Um), AXIS_LIMIT>
     ensures { result.items ≡ model.first_axes job.now }
 {
     let mut axes = ArrayVec::new();
@@ -172,7 +172,7 @@ fn zone_entry(job: &Job, number: u8) -> Option<(ZoneId, AxisSet, Option<ChannelI
 
 /// The zones, in the order of their numbers.
 #[tactic(auto, unfolding(crate::specs::StartStates::first_zones))]
-fn first_zones(job: &Job) -> ArrayVec<(ZoneId, AxisSet, Option<ChannelId>, bool), 32>
+fn first_zones(job: &Job) -> ArrayVec<(ZoneId, AxisSet, Option<ChannelId>, bool), ZONE_LIMIT>
     ensures { result.items ≡ model.first_zones job.now }
 {
     let mut zones = ArrayVec::new();

@@ -1,6 +1,7 @@
 //! What the blocks of a channel find in its job.
 
 ghost use Rattle.std.specs.Prelude.{◌≤◌, length};
+ghost use Rattle.job_lines.specs.declared.limits.TheConstants.{PROGRAM_LIMIT};
 
 use axis_sets::{AxisId, ChannelId};
 use block_effects::Setup;
@@ -15,7 +16,7 @@ pub(crate) struct Surroundings<'a> {
     pub(crate) job: &'a Job,
     /// The channel.
     pub(crate) channel: ChannelId,
-    ghost few: { length job.now.programs ≤ 65536 },
+    ghost few: { length job.now.programs ≤ PROGRAM_LIMIT },
 }
 
 impl<'a> Setup for Surroundings<'a> {

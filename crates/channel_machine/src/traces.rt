@@ -7,6 +7,7 @@ ghost use Rattle.channel_machine.specs.Kept.{IsSettingIn, Keeps, state_view};
 ghost use Rattle.channel_machine.specs.Levels.{LevelsFit};
 ghost use Rattle.channel_machine.specs.Run.{SurroundingsView, Channel, channel_after_grant};
 ghost use Rattle.channel_machine.specs.TracedSegments.{IsTraced};
+ghost use Rattle.job_lines.specs.declared.limits.TheConstants.{PROGRAM_LIMIT};
 
 use crate::levels::Levels;
 use crate::limits::BLOCK_LIMIT;
@@ -60,7 +61,7 @@ pub(crate) fn trace_on(
     grant: &Grant,
 ) -> Result<TracedSegment, NoMemory>
     requires blocks { BlocksFit job.now }
-    requires programs { length job.now.programs ≤ 65536 }
+    requires programs { length job.now.programs ≤ PROGRAM_LIMIT }
     requires fit { IfSome local.levels (LevelsFit job.now.skip job.now.programs) }
     requires few { local.count ≤ BLOCK_LIMIT }
     ensures told { IfOk result (λ g. (s : SurroundingsView) (c : Channel)
@@ -82,7 +83,7 @@ pub(crate) fn trace_segment(
     local: Local,
 ) -> Result<TracedSegment, NoMemory>
     requires blocks { BlocksFit job.now }
-    requires programs { length job.now.programs ≤ 65536 }
+    requires programs { length job.now.programs ≤ PROGRAM_LIMIT }
     requires fit { IfSome local.levels (LevelsFit job.now.skip job.now.programs) }
     requires few { local.count ≤ BLOCK_LIMIT }
     ensures told { IfOk result (λ g. (s : SurroundingsView) (c : Channel) → IsSettingIn job.now s local
@@ -98,7 +99,7 @@ pub(crate) fn trace_segment(
 /// comes, of which each time a copy is kept.
 fn trace_state(alloc: Global, job: &Job, start: Box<State>) -> Result<TracedSegment, NoMemory>
     requires blocks { BlocksFit job.now }
-    requires programs { length job.now.programs ≤ 65536 }
+    requires programs { length job.now.programs ≤ PROGRAM_LIMIT }
     requires fit { IfSome start.value.levels (LevelsFit job.now.skip job.now.programs) }
     requires few { start.value.count ≤ BLOCK_LIMIT }
     ensures told { IfOk result (λ g. (s : SurroundingsView) (c : Channel)

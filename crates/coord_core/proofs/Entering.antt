@@ -1,4 +1,5 @@
 -- A whole step, and the entry that it leaves.
+use Rattle.axis_sets.specs.declared.limits.TheConstants.{CHANNEL_LIMIT}
 use Rattle.std.proofs.Common.{◌≡◌, ℕ, zero, suc, Option, Some, None, ◌+◌, ◌≤◌, true, List, [], ◌∷◌, ◌++◌, map, length, length-append, append_assoc, subst, refl, sym, ap, ap₂, ◌∙◌, arith}
 use Rattle.std.proofs.lemmas.List.{length-map}
 use Rattle.sync_types.proofs.EntryLaws.{after_one_more, lawful_with_one_more}
@@ -14,15 +15,15 @@ use Rattle.sync_types.specs.declared.Step.{Step}
 use Rattle.sync_types.specs.declared.runs.Go.{Go}
 
 all_within : (b own : Board) (c : ℕ) (step : Step) → StartsChannels step.action → own ≡ after_own_part b c step
-    → length (goings_on own (channels_started (alarm_of b c step.action) step.action)) ≤ 8
+    → length (goings_on own (channels_started (alarm_of b c step.action) step.action)) ≤ CHANNEL_LIMIT
 all_within b own c step named is =
-    let P : Board → Type 0 = λ a. length (goings_on a (channels_started (alarm_of b c step.action) step.action)) ≤ 8 in
+    let P : Board → Type 0 = λ a. length (goings_on a (channels_started (alarm_of b c step.action) step.action)) ≤ CHANNEL_LIMIT in
     subst P (sym is) (at_most_eight_go b c step named)
 
 -- there is room for all that go on
 pub room_at_once : (b own : Board) (c : ℕ) (step : Step) (goes : List Go) → StartsChannels step.action → own ≡ after_own_part b c step
     → goes ≡ map go_of (map (going_of_start own) (channels_started (alarm_of b c step.action) step.action))
-    → length goes + length (goers_at_once own) ≤ 8
+    → length goes + length (goers_at_once own) ≤ CHANNEL_LIMIT
 room_at_once b own c step goes named is started =
     let starts : List ℕ = channels_started (alarm_of b c step.action) step.action in
     let first : List Going = map (going_of_start own) starts in
@@ -41,7 +42,7 @@ room_at_once b own c step goes named is started =
 pub room_after : (b own gone : Board) (c : ℕ) (step : Step) (goes more : List Go) → StartsChannels step.action → own ≡ after_own_part b c step
     → goes ≡ map go_of (map (going_of_start own) (channels_started (alarm_of b c step.action) step.action))
     → more ≡ goes ++ map go_of (map (going_at_once own) (goers_at_once own)) → gone ≡ after_goes own
-    → length more + length (all_takings gone).goings ≤ 8
+    → length more + length (all_takings gone).goings ≤ CHANNEL_LIMIT
 room_after b own gone c step goes more named is started went moved =
     let starts : List ℕ = channels_started (alarm_of b c step.action) step.action in
     let first : List Going = map (going_of_start own) starts in
@@ -122,4 +123,4 @@ part_start b c step (Some code) = refl
 part_start b c step None = refl
 
 pub step_start : (b : Board) (c : ℕ) (step : Step) → (after_step b c step).start ≡ b.start
-step_start b c step = takings_start 8 (after_goes (after_own_part b c step)) ∙ part_start b c step (alarm_of b c step.action)
+step_start b c step = takings_start CHANNEL_LIMIT (after_goes (after_own_part b c step)) ∙ part_start b c step (alarm_of b c step.action)

@@ -21,13 +21,13 @@ owned_alike (Some (Free position)) c = refl
 owned_alike None c = refl
 
 pub no_positions_listed : (at : List (Option ℤ)) → ((x : ℕ) → position_of at x ≡ None) → length at ≡ AXIS_LIMIT → at ≡ no_positions
-no_positions_listed at none size = fill_by_all (λ (x : ℕ). let o : Option ℤ = None in o) at 16 None size (λ x below. none x)
+no_positions_listed at none size = fill_by_all (λ (x : ℕ). let o : Option ℤ = None in o) at AXIS_LIMIT None size (λ x below. none x)
 
 pub positions_listed : (at : List (Option ℤ)) (test : ℕ → Bool) (place : ℕ → ℤ) → ((x : ℕ) → position_of at x ≡ (if test x then Some (place x) else None)) → length at ≡ AXIS_LIMIT → at ≡ positions_where test place
-positions_listed at test place is size = fill_by_all (λ (x : ℕ). if test x then Some (place x) else None) at 16 None size (λ x below. is x)
+positions_listed at test place is size = fill_by_all (λ (x : ℕ). if test x then Some (place x) else None) at AXIS_LIMIT None size (λ x below. is x)
 
 zones_listed : (on : List Bool) (g : ℕ → Bool) → ((z : ℕ) → has on z ≡ g z) → has on 0 ≡ false → length on ≡ ZONE_PLACES → on ≡ false ∷ map g zone_numbers
-zones_listed on g is none size = fill_by_all (λ (z : ℕ). if z == 0 then false else g z) on 33 false size (λ z below. elim (cases_Bool (z == 0)) [
+zones_listed on g is none size = fill_by_all (λ (z : ℕ). if z == 0 then false else g z) on ZONE_PLACES false size (λ z below. elim (cases_Bool (z == 0)) [
   | inl here ↦ ap (has on) (eqb-true z 0 here) ∙ none ∙ sym (rw here refl)
   | inr other ↦ is z ∙ sym (rw other refl)
 ])
@@ -40,7 +40,7 @@ pub granted : (t : Table) (channels : List Activity) (c : ℕ) (at : List (Optio
 unfolding grant_with
 granted t channels c at own on program kept owned own_size held none on_size selected =
     let axes : own ≡ map (owns (board_in t channels) c) axis_numbers =
-    fill_by_all (owns (board_in t channels) c) own 16 false own_size (λ x below. owned x ∙ owned_alike (axis_state t.owners x) c) in
+    fill_by_all (owns (board_in t channels) c) own AXIS_LIMIT false own_size (λ x below. owned x ∙ owned_alike (axis_state t.owners x) c) in
     let zones : on ≡ false ∷ map (λ z. is_this (holder_in t.zones.items z) c && is_on_in t.zones.items z) zone_numbers =
     zones_listed on (λ z. is_this (holder_in t.zones.items z) c && is_on_in t.zones.items z)
     (λ z. held z ∙ zone_found (λ zone. is_this zone.holder c && zone.on) t.zones.items z kept.zones_once ∙ held_and_on (zone_in t.zones.items z) c) none on_size in

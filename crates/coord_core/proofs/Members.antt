@@ -4,7 +4,7 @@ use Rattle.std.proofs.lemmas.Bool.{cases_Bool, cases_eq}
 use Rattle.std.specs.List.{list_all, list_any, range_with_len}
 use Rattle.axis_sets.proofs.SetLaws.{list_any-members_of}
 use Rattle.axis_sets.specs.Sets.{has, members_of, IsEmpty}
-use Rattle.axis_sets.specs.declared.limits.TheConstants.{CHANNEL_PLACES}
+use Rattle.axis_sets.specs.declared.limits.TheConstants.{CHANNEL_LIMIT, CHANNEL_PLACES}
 use Rattle.coord_core.specs.Tables.{HasPassing}
 use Rattle.set_laws.proofs.MemberLaws.{list_all-members_of, list_all-at_member, list_all-filter}
 use Rattle.sync_types.proofs.BoardTests.{no_truth}
@@ -29,12 +29,12 @@ all_range p q a (suc n) same =
 -- the members of a set of channels
 pub members_named : (set : List Bool) → has set 0 ≡ false → length set ≡ CHANNEL_PLACES → members_of set ≡ filter (has set) channel_numbers
 members_named set none size =
-    let by_length : members_of set ≡ filter (has set) (range_with_len 0 9) = ap (λ n. filter (has set) (range_with_len 0 n)) size in
+    let by_length : members_of set ≡ filter (has set) (range_with_len 0 CHANNEL_PLACES) = ap (λ n. filter (has set) (range_with_len 0 n)) size in
     by_length ∙ ap (λ (t : Bool). cond t (0 ∷ filter (has set) channel_numbers) (filter (has set) channel_numbers)) none
 
 -- of a set of those that pass
 pub passing_list : (set : List Bool) (passes : ℕ → Bool) → HasPassing set passes → filter (has set) channel_numbers ≡ filter passes channel_numbers
-passing_list set passes h = filter_range (has set) passes 1 8 (λ x from upto. h.channels x from (omega arith))
+passing_list set passes h = filter_range (has set) passes 1 CHANNEL_LIMIT (λ x from upto. h.channels x from (omega arith))
 
 pub passing_among : (set : List Bool) (passes : ℕ → Bool) → HasPassing set passes → (c : ℕ) → has set c ≡ among (filter passes channel_numbers) c
 passing_among set passes h c =
@@ -47,7 +47,7 @@ all_named named p q none size same =
     let listed : members_of named ≡ filter (has named) channel_numbers = members_named named none size in
     ap (λ (xs : List ℕ). list_all p xs) listed
     ∙ list_all-filter p (has named) channel_numbers
-    ∙ all_range (λ x. not (has named x) || p x) (λ x. not (has named x) || q x) 1 8 (λ x from upto. ap (λ (b : Bool). not (has named x) || b) (same x from (omega arith)))
+    ∙ all_range (λ x. not (has named x) || p x) (λ x. not (has named x) || q x) 1 CHANNEL_LIMIT (λ x from upto. ap (λ (b : Bool). not (has named x) || b) (same x from (omega arith)))
     ∙ sym (list_all-filter q (has named) channel_numbers)
     ∙ sym (ap (λ (xs : List ℕ). list_all q xs) listed)
 
@@ -118,8 +118,8 @@ turned false true e = refl
 turned false false e = e
 
 -- the channels from a number on
-pub next_kept : (p : ℕ → Bool) (n : ℕ) → n < 9
-    → filter p (range_with_len n (9 - n)) ≡ cond (p n) (n ∷ filter p (range_with_len (n + 1) (9 - (n + 1)))) (filter p (range_with_len (n + 1) (9 - (n + 1))))
+pub next_kept : (p : ℕ → Bool) (n : ℕ) → n < CHANNEL_PLACES
+    → filter p (range_with_len n (CHANNEL_PLACES - n)) ≡ cond (p n) (n ∷ filter p (range_with_len (n + 1) (CHANNEL_PLACES - (n + 1)))) (filter p (range_with_len (n + 1) (CHANNEL_PLACES - (n + 1))))
 next_kept p n below =
-    let more : 9 - n ≡ suc (9 - (n + 1)) = omega arith in
+    let more : CHANNEL_PLACES - n ≡ suc (CHANNEL_PLACES - (n + 1)) = omega arith in
     ap (λ (k : ℕ). filter p (range_with_len n k)) more

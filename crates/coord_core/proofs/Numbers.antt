@@ -1,4 +1,5 @@
 -- Channels that the machine has not are idle for good, so all that run have numbers from 1 to 8.
+use Rattle.axis_sets.specs.declared.limits.TheConstants.{CHANNEL_LIMIT}
 use Rattle.std.proofs.Common.{◌≡◌, ℕ, zero, suc, ◌+◌, ◌<◌, ◌≤◌, ◌==◌, Bool, true, false, List, [], ◌∷◌, filter, Option, Some, None, refl, sym, ap, ◌∙◌, eqb-true, eq-eqb, inl, inr, arith}
 use Rattle.std.specs.List.{range_with_len}
 use Rattle.std.proofs.lemmas.Bool.{cases_Bool, and_parts}
@@ -35,8 +36,8 @@ in_range a (suc n) c from below = elim (cases_Bool (a == c)) [
       rw other (in_range (a + 1) n c (omega arith) (omega arith))
 ]
 
-pub numbered : (c : ℕ) → 1 ≤ c → c ≤ 8 → among channel_numbers c ≡ true
-numbered c from upto = in_range 1 8 c from (omega arith)
+pub numbered : (c : ℕ) → 1 ≤ c → c ≤ CHANNEL_LIMIT → among channel_numbers c ≡ true
+numbered c from upto = in_range 1 CHANNEL_LIMIT c from (omega arith)
 
 pub first_listed : (p : ℕ → Bool) (xs : List ℕ) (x : ℕ) → first_of (filter p xs) ≡ Some x → among xs x ≡ true
 first_listed p [] x e = absurd (none_not_some x e)
@@ -117,7 +118,7 @@ numbered_takings (suc n) b idle = next (numbered_takings n) (next_taker b) refl
 
 pub numbered_step : (b : Board) (c : ℕ) (step : Step) → HasNumbers b.start → among channel_numbers c ≡ true → AreNumbered b → AreNumbered (after_step b c step)
 numbered_step b c step known on idle =
-    numbered_takings 8 (after_goes (after_own_part b c step)) (numbered_goes (after_own_part b c step) (numbered_part b c step (alarm_of b c step.action) refl known on idle))
+    numbered_takings CHANNEL_LIMIT (after_goes (after_own_part b c step)) (numbered_goes (after_own_part b c step) (numbered_part b c step (alarm_of b c step.action) refl known on idle))
 
 -- who runs has a number
 pub running_numbered : (b : Board) (c : ℕ) → AreNumbered b → is_running (b.state c) ≡ true → among channel_numbers c ≡ true

@@ -24,21 +24,21 @@ abbrev pub goes_of : (ℕ → Going) → List ℕ → List Go
 goes_of going cs = map go_of (map going cs)
 
 -- one more channel goes on, or not
-pub goes_more : (going : ℕ → Going) (p : ℕ → Bool) (n : ℕ) (whole goes : List Go) (go : Go) → n < 9 → p n ≡ true → go ≡ go_of (going n)
-    → whole ≡ goes ++ goes_of going (filter p (range_with_len n (9 - n)))
-    → whole ≡ (goes ++ go ∷ []) ++ goes_of going (filter p (range_with_len (n + 1) (9 - (n + 1))))
+pub goes_more : (going : ℕ → Going) (p : ℕ → Bool) (n : ℕ) (whole goes : List Go) (go : Go) → n < CHANNEL_PLACES → p n ≡ true → go ≡ go_of (going n)
+    → whole ≡ goes ++ goes_of going (filter p (range_with_len n (CHANNEL_PLACES - n)))
+    → whole ≡ (goes ++ go ∷ []) ++ goes_of going (filter p (range_with_len (n + 1) (CHANNEL_PLACES - (n + 1))))
 goes_more going p n whole goes go below on is before =
-    let rest : List ℕ = filter p (range_with_len (n + 1) (9 - (n + 1))) in
-    let kept : filter p (range_with_len n (9 - n)) ≡ n ∷ rest = next_kept p n below ∙ ap (λ (b : Bool). cond b (n ∷ rest) rest) on in
+    let rest : List ℕ = filter p (range_with_len (n + 1) (CHANNEL_PLACES - (n + 1))) in
+    let kept : filter p (range_with_len n (CHANNEL_PLACES - n)) ≡ n ∷ rest = next_kept p n below ∙ ap (λ (b : Bool). cond b (n ∷ rest) rest) on in
     before ∙ ap (λ (cs : List ℕ). goes ++ goes_of going cs) kept
     ∙ ap (λ (g : Go). goes ++ (g ∷ goes_of going rest)) (sym is)
     ∙ sym (append_assoc goes (go ∷ []) (goes_of going rest))
 
-pub goes_as_before : (going : ℕ → Going) (p : ℕ → Bool) (n : ℕ) (whole goes : List Go) → n < 9 → p n ≡ false
-    → whole ≡ goes ++ goes_of going (filter p (range_with_len n (9 - n)))
-    → whole ≡ goes ++ goes_of going (filter p (range_with_len (n + 1) (9 - (n + 1))))
+pub goes_as_before : (going : ℕ → Going) (p : ℕ → Bool) (n : ℕ) (whole goes : List Go) → n < CHANNEL_PLACES → p n ≡ false
+    → whole ≡ goes ++ goes_of going (filter p (range_with_len n (CHANNEL_PLACES - n)))
+    → whole ≡ goes ++ goes_of going (filter p (range_with_len (n + 1) (CHANNEL_PLACES - (n + 1))))
 goes_as_before going p n whole goes below off before =
-    let rest : List ℕ = filter p (range_with_len (n + 1) (9 - (n + 1))) in
+    let rest : List ℕ = filter p (range_with_len (n + 1) (CHANNEL_PLACES - (n + 1))) in
     before ∙ ap (λ (cs : List ℕ). goes ++ goes_of going cs) (next_kept p n below ∙ ap (λ (b : Bool). cond b (n ∷ rest) rest) off)
 
 -- a channel may take what is free or its own, on the board as in the owners
@@ -106,12 +106,12 @@ written_all old now set f n end size below above x = elim (cases_lt x n) [
   | inr past ↦ above x past ∙ sym (ap (λ (b : Bool). if b then f x else activity_at old x) (has-past set x (omega arith)))
 ]
 
-pub kept_here : (p : ℕ → Bool) (n : ℕ) → n < 9 → p n ≡ true → length (filter p (range_with_len n (9 - n))) ≡ suc (length (filter p (range_with_len (n + 1) (9 - (n + 1)))))
+pub kept_here : (p : ℕ → Bool) (n : ℕ) → n < CHANNEL_PLACES → p n ≡ true → length (filter p (range_with_len n (CHANNEL_PLACES - n))) ≡ suc (length (filter p (range_with_len (n + 1) (CHANNEL_PLACES - (n + 1)))))
 kept_here p n below on =
-    let rest : List ℕ = filter p (range_with_len (n + 1) (9 - (n + 1))) in
+    let rest : List ℕ = filter p (range_with_len (n + 1) (CHANNEL_PLACES - (n + 1))) in
     ap (λ (cs : List ℕ). length cs) (next_kept p n below ∙ ap (λ (b : Bool). cond b (n ∷ rest) rest) on)
 
-pub left_here : (p : ℕ → Bool) (n : ℕ) → n < 9 → p n ≡ false → length (filter p (range_with_len n (9 - n))) ≡ length (filter p (range_with_len (n + 1) (9 - (n + 1))))
+pub left_here : (p : ℕ → Bool) (n : ℕ) → n < CHANNEL_PLACES → p n ≡ false → length (filter p (range_with_len n (CHANNEL_PLACES - n))) ≡ length (filter p (range_with_len (n + 1) (CHANNEL_PLACES - (n + 1))))
 left_here p n below off =
-    let rest : List ℕ = filter p (range_with_len (n + 1) (9 - (n + 1))) in
+    let rest : List ℕ = filter p (range_with_len (n + 1) (CHANNEL_PLACES - (n + 1))) in
     ap (λ (cs : List ℕ). length cs) (next_kept p n below ∙ ap (λ (b : Bool). cond b (n ∷ rest) rest) off)

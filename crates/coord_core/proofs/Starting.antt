@@ -43,9 +43,9 @@ first_of_all : (all : List (ℕ × Option ℕ × ℤ)) (owner : ℕ → Option �
     → (x : ℕ) → x < AXIS_LIMIT → first_state all x ≡ Some (state_with (owner x) (position x))
 first_of_all all owner position size each x below =
     let g : ℕ → ℕ × Option ℕ × ℤ = λ k. (k, owner k, position k) in
-    let listed : all ≡ map g (range_with_len 0 16) = fill_by_all g all 16 (0, None, pos 0) size (λ k low. each k (0, None, pos 0) low) in
+    let listed : all ≡ map g (range_with_len 0 AXIS_LIMIT) = fill_by_all g all AXIS_LIMIT (0, None, pos 0) size (λ k low. each k (0, None, pos 0) low) in
     ap (λ (lines : List (ℕ × Option ℕ × ℤ)). first_state lines x) listed
-    ∙ ap (option_map (λ line. state_with line.1 line.2)) (found_in_range g (λ k. refl) 0 16 x (omega arith) (omega arith))
+    ∙ ap (option_map (λ line. state_with line.1 line.2)) (found_in_range g (λ k. refl) 0 AXIS_LIMIT x (omega arith) (omega arith))
 
 pub all_owned : (owners : List (Option AxisState)) (all : List (ℕ × Option ℕ × ℤ)) (owner : ℕ → Option ℕ) (position : ℕ → ℤ) → length all ≡ AXIS_LIMIT
     → ((k : ℕ) (d : ℕ × Option ℕ × ℤ) → k < AXIS_LIMIT → slice_index_or all k d ≡ (k, owner k, position k)) → ((x : ℕ) → axis_state owners x ≡ first_state all x)
@@ -57,9 +57,9 @@ none_past : (all : List (ℕ × Option ℕ × ℤ)) (owner : ℕ → Option ℕ)
     → ((k : ℕ) (d : ℕ × Option ℕ × ℤ) → k < AXIS_LIMIT → slice_index_or all k d ≡ (k, owner k, position k)) → (x : ℕ) → AXIS_LIMIT ≤ x → first_state all x ≡ None
 none_past all owner position size each x past =
     let g : ℕ → ℕ × Option ℕ × ℤ = λ k. (k, owner k, position k) in
-    let listed : all ≡ map g (range_with_len 0 16) = fill_by_all g all 16 (0, None, pos 0) size (λ k low. each k (0, None, pos 0) low) in
+    let listed : all ≡ map g (range_with_len 0 AXIS_LIMIT) = fill_by_all g all AXIS_LIMIT (0, None, pos 0) size (λ k low. each k (0, None, pos 0) low) in
     ap (λ (lines : List (ℕ × Option ℕ × ℤ)). first_state lines x) listed
-    ∙ ap (option_map (λ line. state_with line.1 line.2)) (out_of_range g (λ k. refl) 0 16 x (omega arith))
+    ∙ ap (option_map (λ line. state_with line.1 line.2)) (out_of_range g (λ k. refl) 0 AXIS_LIMIT x (omega arith))
   where
     out_of_range : (g : ℕ → ℕ × Option ℕ × ℤ) → ((k : ℕ) → (g k).0 ≡ k) → (a n x : ℕ) → a + n ≤ x → find (λ line. line.0 == x) (map g (range_with_len a n)) ≡ None
     out_of_range g number a zero x past = refl

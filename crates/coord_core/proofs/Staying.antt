@@ -1,4 +1,5 @@
 -- What a step of a channel leaves of the states of channels.
+use Rattle.axis_sets.specs.declared.limits.TheConstants.{CHANNEL_LIMIT}
 use Rattle.std.proofs.Common.{◌≡◌, ℕ, zero, suc, ◌==◌, Bool, true, false, Option, Some, None, if◌then◌else◌, refl, sym, ap, ◌∙◌, eqb-true, eq-eqb}
 use Rattle.std.proofs.lemmas.Bool.{and_parts}
 use Rattle.axis_sets.specs.Sets.{members_of}
@@ -76,7 +77,7 @@ stays_in_takings (suc n) b d on = next (λ a. stays_in_takings n a d) (next_take
 pub stays_in_goings : (b : Board) (d : ℕ) → stays (b.state d) ≡ true → (after_goings b).state d ≡ b.state d
 stays_in_goings b d on =
     let same = stays_in_goes b d on in
-    stays_in_takings 8 (after_goes b) d (ap stays same ∙ on) ∙ same
+    stays_in_takings CHANNEL_LIMIT (after_goes b) d (ap stays same ∙ on) ∙ same
 
 -- where an action does not alarm, START names idle channels
 idle_starts : (b : Board) (action : Action) (d : ℕ) → finds_one_awake b action ≡ false → among (channels_to_start action) d ≡ true → is_idle (b.state d) ≡ true

@@ -8,7 +8,7 @@ use Rattle.axis_exchange.specs.declared.AxisState.TheVariants.{Owned, Free}
 use Rattle.axis_sets.proofs.SetLaws.{list_any-members_of}
 use Rattle.axis_sets.specs.Positions.{position_of}
 use Rattle.axis_sets.specs.Sets.{has, members_of}
-use Rattle.axis_sets.specs.declared.limits.TheConstants.{AXIS_LIMIT}
+use Rattle.axis_sets.specs.declared.limits.TheConstants.{AXIS_LIMIT, CHANNEL_LIMIT}
 use Rattle.coord_core.proofs.Acts.{same_boards}
 use Rattle.coord_core.proofs.GrantLaws.{positions_listed}
 use Rattle.coord_core.proofs.ZoneLaws.{holder_handed, on_handed, axes_handed, numbers_handed}
@@ -161,25 +161,25 @@ taken_kept t channels c axes own taken line owners at zones k handed = record {
     chosen false s some = some
 
 -- takings, one after another
-takings_more : (n : ℕ) (b : Board) (c : ℕ) → n < 8 → next_taker b ≡ Some c → takings (8 - n) b ≡ takings_from (takings (8 - (n + 1))) b (Some c)
+takings_more : (n : ℕ) (b : Board) (c : ℕ) → n < CHANNEL_LIMIT → next_taker b ≡ Some c → takings (CHANNEL_LIMIT - n) b ≡ takings_from (takings (CHANNEL_LIMIT - (n + 1))) b (Some c)
 takings_more n b c below is =
-    let more : 8 - n ≡ suc (8 - (n + 1)) = omega arith in
-    ap (λ (k : ℕ). takings k b) more ∙ ap (takings_from (takings (8 - (n + 1))) b) is
+    let more : CHANNEL_LIMIT - n ≡ suc (CHANNEL_LIMIT - (n + 1)) = omega arith in
+    ap (λ (k : ℕ). takings k b) more ∙ ap (takings_from (takings (CHANNEL_LIMIT - (n + 1))) b) is
 
-pub taking_goes : (n c : ℕ) (b after : Board) (whole goes more : List Go) → n < 8 → next_taker b ≡ Some c → after ≡ after_taking b c → more ≡ goes ++ go_of (going_of_taker b c) ∷ []
-    → whole ≡ goes ++ map go_of (takings (8 - n) b).goings → whole ≡ more ++ map go_of (takings (8 - (n + 1)) after).goings
+pub taking_goes : (n c : ℕ) (b after : Board) (whole goes more : List Go) → n < CHANNEL_LIMIT → next_taker b ≡ Some c → after ≡ after_taking b c → more ≡ goes ++ go_of (going_of_taker b c) ∷ []
+    → whole ≡ goes ++ map go_of (takings (CHANNEL_LIMIT - n) b).goings → whole ≡ more ++ map go_of (takings (CHANNEL_LIMIT - (n + 1)) after).goings
 taking_goes n c b after whole goes more below is moved one before =
     before ∙ ap (λ (tk : Takings). goes ++ map go_of tk.goings) (takings_more n b c below is)
-    ∙ sym (append_assoc goes (go_of (going_of_taker b c) ∷ []) (map go_of (takings (8 - (n + 1)) (after_taking b c)).goings))
-    ∙ ap₂ (λ (gs : List Go) (a : Board). gs ++ map go_of (takings (8 - (n + 1)) a).goings) (sym one) (sym moved)
+    ∙ sym (append_assoc goes (go_of (going_of_taker b c) ∷ []) (map go_of (takings (CHANNEL_LIMIT - (n + 1)) (after_taking b c)).goings))
+    ∙ ap₂ (λ (gs : List Go) (a : Board). gs ++ map go_of (takings (CHANNEL_LIMIT - (n + 1)) a).goings) (sym one) (sym moved)
 
-pub taking_board : (n c : ℕ) (b after whole : Board) → n < 8 → next_taker b ≡ Some c → after ≡ after_taking b c → whole ≡ (takings (8 - n) b).board → whole ≡ (takings (8 - (n + 1)) after).board
+pub taking_board : (n c : ℕ) (b after whole : Board) → n < CHANNEL_LIMIT → next_taker b ≡ Some c → after ≡ after_taking b c → whole ≡ (takings (CHANNEL_LIMIT - n) b).board → whole ≡ (takings (CHANNEL_LIMIT - (n + 1)) after).board
 taking_board n c b after whole below is moved before =
-    before ∙ ap (λ (tk : Takings). tk.board) (takings_more n b c below is) ∙ ap (λ (a : Board). (takings (8 - (n + 1)) a).board) (sym moved)
+    before ∙ ap (λ (tk : Takings). tk.board) (takings_more n b c below is) ∙ ap (λ (a : Board). (takings (CHANNEL_LIMIT - (n + 1)) a).board) (sym moved)
 
-pub taking_room : (n c : ℕ) (b after : Board) → n < 8 → next_taker b ≡ Some c → after ≡ after_taking b c → length (takings (8 - n) b).goings ≡ suc (length (takings (8 - (n + 1)) after).goings)
+pub taking_room : (n c : ℕ) (b after : Board) → n < CHANNEL_LIMIT → next_taker b ≡ Some c → after ≡ after_taking b c → length (takings (CHANNEL_LIMIT - n) b).goings ≡ suc (length (takings (CHANNEL_LIMIT - (n + 1)) after).goings)
 taking_room n c b after below is moved =
-    ap (λ (tk : Takings). length tk.goings) (takings_more n b c below is) ∙ ap (λ (a : Board). suc (length (takings (8 - (n + 1)) a).goings)) (sym moved)
+    ap (λ (tk : Takings). length tk.goings) (takings_more n b c below is) ∙ ap (λ (a : Board). suc (length (takings (CHANNEL_LIMIT - (n + 1)) a).goings)) (sym moved)
 
 pub no_more_takings : (n : ℕ) (b : Board) → next_taker b ≡ None → takings n b ≡ record { goings = []; board = b }
 no_more_takings zero b none = refl

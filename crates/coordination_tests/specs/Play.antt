@@ -1,4 +1,5 @@
 -- Steps. The sequential run of channels whose steps are listed, and what comes of it.
+use Rattle.axis_sets.specs.declared.limits.TheConstants.{AXIS_LIMIT, CHANNEL_PLACES, MARK_LIMIT}
 use Rattle.std.specs.Prelude.{ℕ, ℤ, zero, suc, ◌-◌, ◌==◌, Bool, List, [], ◌∷◌, map, filter, find, length, slice_index_or, Option, Some, None}
 use Rattle.std.specs.List.{range_with_len}
 use Rattle.std.specs.Option.{option_map_or}
@@ -18,20 +19,20 @@ use Rattle.sync_types.specs.declared.runs.Go.{Go}
 
 -- sets of these members
 abbrev pub channels : List ℕ → List Bool
-channels members = map (among members) (range_with_len 0 9)
+channels members = map (among members) (range_with_len 0 CHANNEL_PLACES)
 
 abbrev pub marks : List ℕ → List Bool
-marks members = map (among members) (range_with_len 0 10)
+marks members = map (among members) (range_with_len 0 MARK_LIMIT)
 
 abbrev pub axes : List ℕ → List Bool
-axes members = map (among members) (range_with_len 0 16)
+axes members = map (among members) (range_with_len 0 AXIS_LIMIT)
 
 abbrev pub zones : List ℕ → List Bool
 zones members = map (among members) (range_with_len 0 33)
 
 -- positions of these axes
 abbrev pub positions : List (ℕ × ℤ) → List (Option ℤ)
-positions places = map (λ x. option_map_or (λ place. Some place.1) (find (λ place. place.0 == x) places) None) (range_with_len 0 16)
+positions places = map (λ x. option_map_or (λ place. Some place.1) (find (λ place. place.0 == x) places) None) (range_with_len 0 AXIS_LIMIT)
 
 -- a step of a channel without axes and zones
 abbrev pub at_line : ℕ → Action → Step
@@ -91,7 +92,7 @@ abbrev pub outcome_at : Stage → Script → List ℕ → Outcome
 outcome_at stage script cs = record {
   acts = map act_of (entries_of stage.board (moves_of script stage cs));
   ends = ends_of (stage_after script stage cs).board;
-  marks = map (λ line. filter ((stage_after script stage cs).board.marks line.0) (range_with_len 0 10)) stage.board.start.channels;
+  marks = map (λ line. filter ((stage_after script stage cs).board.marks line.0) (range_with_len 0 MARK_LIMIT)) stage.board.start.channels;
   axes = map (λ line. (stage_after script stage cs).board.axis line.0) stage.board.start.axes;
   zones = zone_marks (stage_after script stage cs).board;
 }

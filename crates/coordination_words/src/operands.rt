@@ -229,6 +229,16 @@ fn with_member<I: Member<N>, const N: usize>(set: Set<I, N>, member: I) -> Set<I
     set.with(member)
 }
 
+/// The set with a mark more.
+fn with_mark(marks: MarkSet, mark: u8) -> MarkSet
+    requires below { mark < MARK_LIMIT }
+    requires size { length marks ≡ MARK_LIMIT }
+    ensures value { result ≡ slice_set marks mark true }
+    ensures size { length result ≡ MARK_LIMIT }
+{
+    marks.with(mark)
+}
+
 /// The marks of these arguments.
 #[tactic(auto, unfolding(crate::specs::Operands::marks_in))]
 pub(crate) fn marks_in<S: Setting, N: Names>(
@@ -243,7 +253,7 @@ pub(crate) fn marks_in<S: Setting, N: Names>(
     let mut marks = MarkSet::empty();
     for operand in operands {
         let mark = mark_in(operand, setting, parameters)?;
-        marks = with_member(marks, mark);
+        marks = with_mark(marks, mark);
     }
     Ok(marks)
 }

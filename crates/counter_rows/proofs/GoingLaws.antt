@@ -1,4 +1,5 @@
 -- A list of tests and a test that agree.
+use Rattle.axis_sets.specs.declared.limits.TheConstants.{CHANNEL_PLACES}
 use Rattle.std.proofs.Common.{◌≡◌, ℕ, suc, ◌+◌, ◌<◌, ◌==◌, ◌&&◌, Bool, true, false, inl, inr, List, [], filter, length, slice_index, slice_index_or, set, sym, ap, ◌∙◌, arith, if◌then◌else◌}
 use Rattle.std.proofs.Math.Path.{fun_ext}
 use Rattle.std.proofs.lemmas.Bool.{cases_lt, and_left, true≢false}
@@ -9,20 +10,20 @@ use Rattle.axis_sets.specs.Sets.{has, members_of}
 use Rattle.counter_rows.specs.Rows.{top, count_of, in_group, joint_top, joint_count}
 
 -- a list of tests is the test
-pub same_test : (chosen goes : List Bool) (group : List ℕ) (number : ℕ) → length chosen ≡ 9 → length goes ≡ 9
-    → ((c : ℕ) → c < 9 → has chosen c ≡ (has goes c && (slice_index group c == number))) → has chosen ≡ in_group goes group number
-same_test chosen goes group number size sizes same = fun_ext (λ c. elim (cases_lt c 9) [
+pub same_test : (chosen goes : List Bool) (group : List ℕ) (number : ℕ) → length chosen ≡ CHANNEL_PLACES → length goes ≡ CHANNEL_PLACES
+    → ((c : ℕ) → c < CHANNEL_PLACES → has chosen c ≡ (has goes c && (slice_index group c == number))) → has chosen ≡ in_group goes group number
+same_test chosen goes group number size sizes same = fun_ext (λ c. elim (cases_lt c CHANNEL_PLACES) [
   | inl below ↦ same c below
   | inr past ↦ get_or-eq_default chosen false (omega arith) ∙ sym (and_left (has goes c) (slice_index group c == number) (get_or-eq_default goes false (omega arith)))
 ])
 
-pub same_joint : (own : List (List ℕ)) (chosen goes : List Bool) (group : List ℕ) (number x : ℕ) → length chosen ≡ 9 → has chosen ≡ in_group goes group number
+pub same_joint : (own : List (List ℕ)) (chosen goes : List Bool) (group : List ℕ) (number x : ℕ) → length chosen ≡ CHANNEL_PLACES → has chosen ≡ in_group goes group number
     → top (λ m. count_of (slice_index_or own m []) x) (members_of chosen) ≡ joint_top own goes group number x
 same_joint own chosen goes group number x size same =
     ap (λ (n : ℕ). top (λ m. count_of (slice_index_or own m []) x) (filter (has chosen) (range_with_len 0 n))) size
-    ∙ ap (λ (p : ℕ → Bool). top (λ m. count_of (slice_index_or own m []) x) (filter p (range_with_len 0 9))) same
+    ∙ ap (λ (p : ℕ → Bool). top (λ m. count_of (slice_index_or own m []) x) (filter p (range_with_len 0 CHANNEL_PLACES))) same
 
-pub same_count : (own : List (List ℕ)) (chosen goes : List Bool) (group : List ℕ) (number x : ℕ) → length chosen ≡ 9 → has chosen ≡ in_group goes group number
+pub same_count : (own : List (List ℕ)) (chosen goes : List Bool) (group : List ℕ) (number x : ℕ) → length chosen ≡ CHANNEL_PLACES → has chosen ≡ in_group goes group number
     → (if has chosen x then suc (top (λ m. count_of (slice_index_or own m []) x) (members_of chosen)) else top (λ m. count_of (slice_index_or own m []) x) (members_of chosen)) ≡ joint_count own goes group number x
 same_count own chosen goes group number x size same =
     ap (λ (m : ℕ). if has chosen x then suc m else m) (same_joint own chosen goes group number x size same)

@@ -28,7 +28,7 @@ fn has_channel(job: &Job, channel: ChannelId) -> bool
 
 /// The channels of a job, ascending.
 #[tactic(auto, unfolding(crate::specs::Channels::channels_of))]
-fn channels_of(job: &Job) -> ArrayVec<ChannelId, 8>
+fn channels_of(job: &Job) -> ArrayVec<ChannelId, CHANNEL_LIMIT>
     ensures { result.items ≡ channels_of job.now }
 {
     let mut channels = ArrayVec::new();

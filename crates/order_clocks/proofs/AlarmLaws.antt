@@ -1,4 +1,5 @@
 -- A step alarms where it is the channel's last and the channel is alarmed at the end.
+use Rattle.axis_sets.specs.declared.limits.TheConstants.{CHANNEL_LIMIT}
 use Rattle.std.proofs.Common.{◌≡◌, ℕ, zero, suc, ◌⊎◌, ◌==◌, ◌||◌, Bool, true, false, inl, inr, Option, Some, None, refl, sym, ap, ◌∙◌}
 use Rattle.std.specs.Prelude.{is_some}
 use Rattle.std.proofs.lemmas.Bool.{cases_Bool, eqb-true, eq-eqb, and_parts}
@@ -56,7 +57,7 @@ goes_stay b d = by_case (among (goers_at_once b) d) refl
     by_case false e = record { same = inl (rw e refl) }
 
 goings_stay : (b : Board) (d : ℕ) → Stays b d (after_goings b)
-goings_stay b d = stays_on b (after_goes b) (after_goings b) d (goes_stay b d) (takings_stay 8 (after_goes b) d)
+goings_stay b d = stays_on b (after_goes b) (after_goings b) d (goes_stay b d) (takings_stay CHANNEL_LIMIT (after_goes b) d)
 
 -- who does not wait is as it was
 taking_leaves : (b : Board) (c d : ℕ) → next_taker b ≡ Some c → wait_in (b.state d) ≡ None → (after_taking b c).state d ≡ b.state d
@@ -93,7 +94,7 @@ goes_still b d none = elim (cases_Bool (among (goers_at_once b) d)) [
     no_goer other none = refl
 
 goings_still : (b : Board) (d : ℕ) → wait_in (b.state d) ≡ None → (after_goings b).state d ≡ b.state d
-goings_still b d none = let one = goes_still b d none in takings_still 8 (after_goes b) d (ap wait_in one ∙ none) ∙ one
+goings_still b d none = let one = goes_still b d none in takings_still CHANNEL_LIMIT (after_goes b) d (ap wait_in one ∙ none) ∙ one
 
 -- the own part of a step for another channel
 part_stays : (b : Board) (c : ℕ) (step : Step) (d : ℕ) → (d == c) ≡ false → ((after_own_part b c step).state d ≡ b.state d) ⊎ ((is_idle (b.state d) ≡ true) × (is_running ((after_own_part b c step).state d) ≡ true))
@@ -248,7 +249,7 @@ takings_start (suc n) b = next (takings_start n) (next_taker b)
     next rest (Some c) = rest (after_taking b c)
 
 step_start : (b : Board) (c : ℕ) (step : Step) → (after_step b c step).start ≡ b.start
-step_start b c step = takings_start 8 (after_goes (after_own_part b c step)) ∙ by_alarm (alarm_of b c step.action)
+step_start b c step = takings_start CHANNEL_LIMIT (after_goes (after_own_part b c step)) ∙ by_alarm (alarm_of b c step.action)
   where
     by_alarm : (a : Option ℕ) → (after_part b c step a).start ≡ b.start
     by_alarm (Some code) = refl

@@ -1,4 +1,5 @@
 -- The counters of all steps.
+use Rattle.axis_sets.specs.declared.limits.TheConstants.{AXIS_LIMIT, CHANNEL_PLACES, MARK_LIMIT}
 use Rattle.std.proofs.Common.{◌≡◌, ℕ, ◌+◌, ◌^◌, ◌<◌, Bool, true, false, inl, inr, List, [], filter, length, slice_index, slice_index_or, replicate, refl, sym, ap, ◌∙◌, arith, if◌then◌else◌}
 use Rattle.order_clocks.specs.Happenings.{Key, Raised, Freed, Started, Ended}
 use Rattle.std.proofs.lemmas.Bool.{cases_lt, lt-ltb}
@@ -34,12 +35,12 @@ zero_rows n k m c x row none = elim (cases_lt m n) [
 ]
 
 pub zero_at : (t : Times) (row : List ℕ) → ((y : ℕ) → count_of row y ≡ 0)
-    → t.raised ≡ replicate 10 (replicate 9 row) → t.freed ≡ replicate 16 row → t.started ≡ replicate 9 row → t.ended ≡ replicate 9 row
+    → t.raised ≡ replicate MARK_LIMIT (replicate CHANNEL_PLACES row) → t.freed ≡ replicate AXIS_LIMIT row → t.started ≡ replicate CHANNEL_PLACES row → t.ended ≡ replicate CHANNEL_PLACES row
     → (k : Key) (x : ℕ) → count_of (row_at t k) x ≡ 0
-zero_at t row none raised freed started ended (Raised c m) x = ap (λ (r : List (List (List ℕ))). count_of (slice_index_or (slice_index_or r m []) c []) x) raised ∙ zero_rows 10 9 m c x row none
-zero_at t row none raised freed started ended (Freed a) x = ap (λ (r : List (List ℕ)). count_of (slice_index_or r a []) x) freed ∙ zero_row 16 a x row none
-zero_at t row none raised freed started ended (Started c) x = ap (λ (r : List (List ℕ)). count_of (slice_index_or r c []) x) started ∙ zero_row 9 c x row none
-zero_at t row none raised freed started ended (Ended c) x = ap (λ (r : List (List ℕ)). count_of (slice_index_or r c []) x) ended ∙ zero_row 9 c x row none
+zero_at t row none raised freed started ended (Raised c m) x = ap (λ (r : List (List (List ℕ))). count_of (slice_index_or (slice_index_or r m []) c []) x) raised ∙ zero_rows MARK_LIMIT CHANNEL_PLACES m c x row none
+zero_at t row none raised freed started ended (Freed a) x = ap (λ (r : List (List ℕ)). count_of (slice_index_or r a []) x) freed ∙ zero_row AXIS_LIMIT a x row none
+zero_at t row none raised freed started ended (Started c) x = ap (λ (r : List (List ℕ)). count_of (slice_index_or r c []) x) started ∙ zero_row CHANNEL_PLACES c x row none
+zero_at t row none raised freed started ended (Ended c) x = ap (λ (r : List (List ℕ)). count_of (slice_index_or r c []) x) ended ∙ zero_row CHANNEL_PLACES c x row none
 
 -- the run of the deeds themselves
 pub run_of : List Deed → Course

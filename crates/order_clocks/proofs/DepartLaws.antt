@@ -1,4 +1,5 @@
 -- Those that go on go from their waits, and what is left of waits and marks.
+use Rattle.axis_sets.specs.declared.limits.TheConstants.{AXIS_LIMIT, CHANNEL_LIMIT}
 use Rattle.std.proofs.Common.{◌≡◌, ℕ, zero, suc, ◌<◌, ◌≤◌, ◌==◌, ◌&&◌, ◌||◌, not, Bool, true, false, inl, inr, ◌⊎◌, List, [], ◌∷◌, ◌++◌, map, Option, Some, None, refl, sym, ap, ◌∙◌, arith, if◌then◌else◌}
 use Rattle.std.specs.Prelude.{is_some}
 use Rattle.std.proofs.lemmas.Bool.{cases_Bool, and_parts, or_cases, eqb-true, eq-eqb}
@@ -39,19 +40,19 @@ taker_waits b c is = (and_parts (waits_for_axes (b.state c)) _ (first_passes (ca
 pub record TakesFrom (b : Board) (g : Going) : Type 0 where
   pub from : g.from ≡ b.state g.channel
   pub waits : waits_for_axes g.from ≡ true
-  pub positions : (x : ℕ) → x < 16 → is_some (position_of g.grant.at x) ≡ among g.took x
-  pub past : (x : ℕ) → 16 ≤ x → is_some (position_of g.grant.at x) ≡ false
+  pub positions : (x : ℕ) → x < AXIS_LIMIT → is_some (position_of g.grant.at x) ≡ among g.took x
+  pub past : (x : ℕ) → AXIS_LIMIT ≤ x → is_some (position_of g.grant.at x) ≡ false
   pub took : (x : ℕ) → among g.took x ≡ true → among (axes_asked g.from) x ≡ true
 
-grant_at : (b : Board) (c x : ℕ) → x < 16 → is_some (position_of (grant_of_taker b c).at x) ≡ among (axes_to_take b c) x
+grant_at : (b : Board) (c x : ℕ) → x < AXIS_LIMIT → is_some (position_of (grant_of_taker b c).at x) ≡ among (axes_to_take b c) x
 unfolding grant_of_taker grant_with
-grant_at b c x below = ap is_some (get_or-map-range_with_len (λ y. if among (axes_to_take b c) y then Some (free_position (b.axis y)) else None) 0 16 x x None below (omega arith)) ∙ chosen (among (axes_to_take b c) x)
+grant_at b c x below = ap is_some (get_or-map-range_with_len (λ y. if among (axes_to_take b c) y then Some (free_position (b.axis y)) else None) 0 AXIS_LIMIT x x None below (omega arith)) ∙ chosen (among (axes_to_take b c) x)
   where
     chosen : (t : Bool) → is_some (if t then Some (free_position (b.axis x)) else None) ≡ t
     chosen true = refl
     chosen false = refl
 
-grant_past : (b : Board) (c x : ℕ) → 16 ≤ x → is_some (position_of (grant_of_taker b c).at x) ≡ false
+grant_past : (b : Board) (c x : ℕ) → AXIS_LIMIT ≤ x → is_some (position_of (grant_of_taker b c).at x) ≡ false
 unfolding grant_of_taker grant_with
 grant_past b c x up = ap is_some (get_or-eq_default (positions_where (among (axes_to_take b c)) (λ y. free_position (b.axis y))) None up)
 
@@ -162,7 +163,7 @@ all_go_from b starts g started within = elim ((in_append g (map (going_of_start 
       took = λ x on. no_truth false on refl;
     })
     | inr taker ↦
-        let t = takings_take 8 (after_goes b) g taker in
+        let t = takings_take CHANNEL_LIMIT (after_goes b) g taker in
         let back = axes_after_goes b g.channel (ap waits_for_axes (sym t.from) ∙ t.waits) in
         record { from = ap wait_in (t.from ∙ back.1); positions = λ on. t.positions; past = λ on. t.past; took = t.took }
   ]
@@ -171,7 +172,7 @@ all_go_from b starts g started within = elim ((in_append g (map (going_of_start 
 axes_among : (b : Board) (d : ℕ) → among (channels_in (all_takings (after_goes b)).goings) d ≡ true → waits_for_axes ((after_goes b).state d) ≡ true
 axes_among b d on =
     let w = going_there (all_takings (after_goes b)).goings d on in
-    let t = takings_take 8 (after_goes b) w.0 w.1.0 in
+    let t = takings_take CHANNEL_LIMIT (after_goes b) w.0 w.1.0 in
     rw w.1.1 at (ap waits_for_axes (sym t.from) ∙ t.waits)
 
 either_way : (p q r : Bool) → (p || (q || r)) ≡ ((p || q) || r)
@@ -200,7 +201,7 @@ goers_among b starts d = among_three (map (going_of_start b) starts) (map (going
 pub goings_leave : (b : Board) (starts : List ℕ) (d : ℕ) → ((s : ℕ) → among starts s ≡ true → wait_in (b.state s) ≡ None)
     → wait_in ((after_goings b).state d) ≡ (if among (channels_in (goings_on b starts)) d then None else wait_in (b.state d))
 unfolding state_after_goes
-goings_leave b starts d started = takings_leave 8 (after_goes b) d ∙ rw (goers_among b starts d) (by_cases (among starts d) (among (goers_at_once b) d) (among (channels_in (all_takings (after_goes b)).goings) d) (started d))
+goings_leave b starts d started = takings_leave CHANNEL_LIMIT (after_goes b) d ∙ rw (goers_among b starts d) (by_cases (among starts d) (among (goers_at_once b) d) (among (channels_in (all_takings (after_goes b)).goings) d) (started d))
   where
     by_cases : (s a k : Bool) → (s ≡ true → wait_in (b.state d) ≡ None) → (if k then None else wait_in (if a then IsRunning (grant_with b d no_positions) else b.state d)) ≡ (if s || (a || k) then None else wait_in (b.state d))
     by_cases true true true none = refl
@@ -215,7 +216,7 @@ goings_leave b starts d started = takings_leave 8 (after_goes b) d ∙ rw (goers
 pub goings_lower : (b : Board) (starts : List ℕ) (d m : ℕ) → ((s : ℕ) → among starts s ≡ true → wait_in (b.state s) ≡ None)
     → (after_goings b).marks d m ≡ (b.marks d m && not (among (channels_in (goings_on b starts)) d && lowers (b.state d) m))
 unfolding marks_after_goes
-goings_lower b starts d m started = ap (λ (marks : ℕ → ℕ → Bool). marks d m) (takings_marks 8 (after_goes b)) ∙ rw (goers_among b starts d) (by_cases (among starts d) (among (goers_at_once b) d) (among (channels_in (all_takings (after_goes b)).goings) d)
+goings_lower b starts d m started = ap (λ (marks : ℕ → ℕ → Bool). marks d m) (takings_marks CHANNEL_LIMIT (after_goes b)) ∙ rw (goers_among b starts d) (by_cases (among starts d) (among (goers_at_once b) d) (among (channels_in (all_takings (after_goes b)).goings) d)
     (λ on. no_wait_lowers_none (b.state d) m (started d on))
     (λ on. let back = axes_after_goes b d (axes_among b d on) in axes_lower_none (b.state d) m (ap waits_for_axes (sym back.1) ∙ axes_among b d on)))
   where
@@ -256,7 +257,7 @@ takers_alike b starts g h started one two same x on = elim (parts g one) [
   | inl none ↦ no_truth false (sym (ap (λ (xs : List ℕ). among xs x) none.0) ∙ on) refl
   | inr there ↦ elim (parts h two) [
     | inl bare ↦ no_truth (waits_for_axes (b.state h.channel)) (waits_both there) bare.1
-    | inr here ↦ rw (takings_once 8 (after_goes b) g h there here same) at on
+    | inr here ↦ rw (takings_once CHANNEL_LIMIT (after_goes b) g h there here same) at on
   ]
 ]
   where
@@ -276,6 +277,6 @@ takers_alike b starts g h started one two same x on = elim (parts g one) [
     -- the channel waits for axes on this board
     waits_both : IsIn g (all_takings (after_goes b)).goings → waits_for_axes (b.state h.channel) ≡ true
     waits_both there =
-        let t = takings_take 8 (after_goes b) g there in
+        let t = takings_take CHANNEL_LIMIT (after_goes b) g there in
         let back = axes_after_goes b g.channel (ap waits_for_axes (sym t.from) ∙ t.waits) in
         ap (λ (c : ℕ). waits_for_axes (b.state c)) (sym same) ∙ (ap waits_for_axes (sym back.1) ∙ (ap waits_for_axes (sym t.from) ∙ t.waits))

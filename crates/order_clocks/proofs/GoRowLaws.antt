@@ -1,4 +1,5 @@
 -- The row that the arrays give a Go is the run's.
+use Rattle.axis_sets.specs.declared.limits.TheConstants.{CHANNEL_PLACES}
 use Rattle.std.proofs.Common.{◌≡◌, ℕ, zero, suc, ◌+◌, ◌<◌, ◌≤◌, ◌⊎◌, ◌==◌, ◌&&◌, ◌||◌, max, cond, Bool, true, false, inl, inr, List, [], ◌∷◌, map, filter, length, slice_index, slice_index_or, refl, sym, ap, ◌∙◌, arith, if◌then◌else◌}
 use Rattle.order_clocks.specs.Happenings.{Key, Raised}
 use Rattle.order_clocks.specs.Chains.{IsIn}
@@ -66,30 +67,30 @@ listed p a (suc n) c from upto = elim (cases_eq a c) [
     later true d = refl
     later false d = refl
 
-pub members_are : (run : Course) (i g : ℕ) (goes : List Bool) (group : List ℕ) → run.goers i ≡ members_of goes → length goes ≡ 9 → ((c : ℕ) → run.group i c ≡ slice_index group c)
-    → members run i g ≡ filter (in_group goes group g) (range_with_len 0 9)
+pub members_are : (run : Course) (i g : ℕ) (goes : List Bool) (group : List ℕ) → run.goers i ≡ members_of goes → length goes ≡ CHANNEL_PLACES → ((c : ℕ) → run.group i c ≡ slice_index group c)
+    → members run i g ≡ filter (in_group goes group g) (range_with_len 0 CHANNEL_PLACES)
 members_are run i g goes group goers size same =
     ap (λ (xs : List ℕ). filter (λ c. run.group i c == g) xs) goers
     ∙ (filter_twice (λ c. run.group i c == g) (has goes) (range_with_len 0 (length goes))
     ∙ (ap (λ (n : ℕ). filter (λ c. has goes c && (run.group i c == g)) (range_with_len 0 n)) size
-    ∙ ap (λ (p : ℕ → Bool). filter p (range_with_len 0 9)) (fun_ext (λ c. ap (λ (k : ℕ). has goes c && (k == g)) (same c)))))
+    ∙ ap (λ (p : ℕ → Bool). filter p (range_with_len 0 CHANNEL_PLACES)) (fun_ext (λ c. ap (λ (k : ℕ). has goes c && (k == g)) (same c)))))
 
-pub contains_group : (goes : List Bool) (group : List ℕ) (g x : ℕ) → length goes ≡ 9 → among (filter (in_group goes group g) (range_with_len 0 9)) x ≡ in_group goes group g x
-contains_group goes group g x size = elim (cases_lt x 9) [
-  | inl below ↦ listed (in_group goes group g) 0 9 x (omega arith) (omega arith)
-  | inr past ↦ unlisted (in_group goes group g) 0 9 x (inr (omega arith)) ∙ sym (and_left (has goes x) (slice_index group x == g) (get_or-eq_default goes false (omega arith)))
+pub contains_group : (goes : List Bool) (group : List ℕ) (g x : ℕ) → length goes ≡ CHANNEL_PLACES → among (filter (in_group goes group g) (range_with_len 0 CHANNEL_PLACES)) x ≡ in_group goes group g x
+contains_group goes group g x size = elim (cases_lt x CHANNEL_PLACES) [
+  | inl below ↦ listed (in_group goes group g) 0 CHANNEL_PLACES x (omega arith) (omega arith)
+  | inr past ↦ unlisted (in_group goes group g) 0 CHANNEL_PLACES x (inr (omega arith)) ∙ sym (and_left (has goes x) (slice_index group x == g) (get_or-eq_default goes false (omega arith)))
 ]
 
 pub joint_is_go : (run : Course) (i : ℕ) (s : LastRows) (own : List (List ℕ)) (goes : List Bool) (group : List ℕ) (g x : ℕ)
-    → run.goers i ≡ members_of goes → length goes ≡ 9 → ((c : ℕ) → run.group i c ≡ slice_index group c)
-    → ((c : ℕ) → c < 9 → count_of (slice_index_or own c []) x ≡ own_row run i s c x)
+    → run.goers i ≡ members_of goes → length goes ≡ CHANNEL_PLACES → ((c : ℕ) → run.group i c ≡ slice_index group c)
+    → ((c : ℕ) → c < CHANNEL_PLACES → count_of (slice_index_or own c []) x ≡ own_row run i s c x)
     → joint_count own goes group g x ≡ go_row run i s g x
 unfolding go_row
 joint_is_go run i s own goes group g x goers size same owns =
     ap (λ (b : Bool). if b then suc (joint_top own goes group g x) else joint_top own goes group g x) (sym (contains_group goes group g x size))
-    ∙ (ap (λ (n : ℕ). if among (filter (in_group goes group g) (range_with_len 0 9)) x then suc n else n)
-    (top_same (λ c. count_of (slice_index_or own c []) x) (λ c. own_row run i s c x) (filter (in_group goes group g) (range_with_len 0 9))
-    (λ c within. owns c (let r = in_range (in_group goes group g) 0 9 c within in omega arith)))
+    ∙ (ap (λ (n : ℕ). if among (filter (in_group goes group g) (range_with_len 0 CHANNEL_PLACES)) x then suc n else n)
+    (top_same (λ c. count_of (slice_index_or own c []) x) (λ c. own_row run i s c x) (filter (in_group goes group g) (range_with_len 0 CHANNEL_PLACES))
+    (λ c within. owns c (let r = in_range (in_group goes group g) 0 CHANNEL_PLACES c within in omega arith)))
     ∙ ap (λ (ms : List ℕ). if among ms x then suc (top (λ c. own_row run i s c x) ms) else top (λ c. own_row run i s c x) ms) (sym (members_are run i g goes group goers size same)))
 
 pub top_map : {A : Type 0} (f : A → ℕ) (h : ℕ → A) (xs : List ℕ) → top f (map h xs) ≡ top (λ x. f (h x)) xs
@@ -98,9 +99,9 @@ top_map f h (x ∷ xs) = ap (λ (n : ℕ). max (f (h x)) n) (top_map f h xs)
 
 -- a Go at marks: the arrays that show the state give its own row
 pub own_is : (run : Course) (i : ℕ) (s : LastRows) (past : List (List ℕ)) (raised : List (List (List ℕ))) (named : List Bool) (c m x : ℕ)
-    → run.asks i c ≡ map (λ d. Raised d m) (members_of named) → length named ≡ 9
+    → run.asks i c ≡ map (λ d. Raised d m) (members_of named) → length named ≡ CHANNEL_PLACES
     → count_of (slice_index_or past c []) x ≡ s.past c x
-    → ((d : ℕ) → d < 9 → count_of (slice_index_or (slice_index_or raised m []) d []) x ≡ s.last (Raised d m) x)
+    → ((d : ℕ) → d < CHANNEL_PLACES → count_of (slice_index_or (slice_index_or raised m []) d []) x ≡ s.last (Raised d m) x)
     → max (count_of (slice_index_or past c []) x) (top (λ d. count_of (slice_index_or (slice_index_or raised m []) d []) x) (members_of named)) ≡ own_row run i s c x
 unfolding own_row
 own_is run i s past raised named c m x asks size here last =

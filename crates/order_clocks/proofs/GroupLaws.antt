@@ -1,4 +1,5 @@
 -- The numbers tell which channels are joined.
+use Rattle.axis_sets.specs.declared.limits.TheConstants.{CHANNEL_PLACES}
 use Rattle.std.proofs.Common.{◌≡◌, ℕ, ◌<◌, ◌⊎◌, ◌==◌, true, false, inl, inr, List, [], ◌∷◌, ◌++◌, refl, sym, ap, ◌∙◌, if◌then◌else◌}
 use Rattle.std.proofs.lemmas.Bool.{cases_Bool, eqb-true, eq-eqb}
 use Rattle.order_clocks.specs.Chains.{IsPath, Leads}
@@ -138,24 +139,24 @@ chained_pair ps c d pair = inr ([], pair)
 
 -- one number in place of another
 abbrev pub IsRelabelled : List ℕ → List ℕ → ℕ → ℕ → Type 0
-IsRelabelled old new a b = (c : ℕ) → c < 9 → slice_index new c ≡ (if slice_index old c == slice_index old a then slice_index old b else slice_index old c)
+IsRelabelled old new a b = (c : ℕ) → c < CHANNEL_PLACES → slice_index new c ≡ (if slice_index old c == slice_index old a then slice_index old b else slice_index old c)
 
-taken : (old new : List ℕ) (a b c : ℕ) → IsRelabelled old new a b → c < 9 → (slice_index old c == slice_index old a) ≡ true → slice_index new c ≡ slice_index old b
+taken : (old new : List ℕ) (a b c : ℕ) → IsRelabelled old new a b → c < CHANNEL_PLACES → (slice_index old c == slice_index old a) ≡ true → slice_index new c ≡ slice_index old b
 taken old new a b c is below on = is c below ∙ rw on refl
 
-left : (old new : List ℕ) (a b c : ℕ) → IsRelabelled old new a b → c < 9 → (slice_index old c == slice_index old a) ≡ false → slice_index new c ≡ slice_index old c
+left : (old new : List ℕ) (a b c : ℕ) → IsRelabelled old new a b → c < CHANNEL_PLACES → (slice_index old c == slice_index old a) ≡ false → slice_index new c ≡ slice_index old c
 left old new a b c is below off = is c below ∙ rw off refl
 
-pub relabel_keeps : (old new : List ℕ) (a b c d : ℕ) → IsRelabelled old new a b → c < 9 → d < 9 → slice_index old c ≡ slice_index old d → slice_index new c ≡ slice_index new d
+pub relabel_keeps : (old new : List ℕ) (a b c d : ℕ) → IsRelabelled old new a b → c < CHANNEL_PLACES → d < CHANNEL_PLACES → slice_index old c ≡ slice_index old d → slice_index new c ≡ slice_index new d
 relabel_keeps old new a b c d is c_below d_below e = is c c_below ∙ rw e (sym (is d d_below))
 
-pub relabel_joins : (old new : List ℕ) (a b : ℕ) → IsRelabelled old new a b → a < 9 → b < 9 → slice_index new a ≡ slice_index new b
+pub relabel_joins : (old new : List ℕ) (a b : ℕ) → IsRelabelled old new a b → a < CHANNEL_PLACES → b < CHANNEL_PLACES → slice_index new a ≡ slice_index new b
 relabel_joins old new a b is a_below b_below = taken old new a b a is a_below (eq-eqb _ _ refl) ∙ elim (cases_Bool (slice_index old b == slice_index old a)) [
   | inl on ↦ sym (taken old new a b b is b_below on)
   | inr off ↦ sym (left old new a b b is b_below off)
 ]
 
-pub relabel_links : (ps : List Pair) (old new : List ℕ) (a b : ℕ) → IsRelabelled old new a b → a < 9 → b < 9 → ArePaired ps a b → AreAllLinked ps old → AreAllLinked ps new
+pub relabel_links : (ps : List Pair) (old new : List ℕ) (a b : ℕ) → IsRelabelled old new a b → a < CHANNEL_PLACES → b < CHANNEL_PLACES → ArePaired ps a b → AreAllLinked ps old → AreAllLinked ps new
 relabel_links ps old new a b is a_below b_below pair all c d c_below d_below e =
     let a_b = chained_pair ps a b pair in
     elim (cases_Bool (slice_index old c == slice_index old a)) [

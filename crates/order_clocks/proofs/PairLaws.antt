@@ -1,4 +1,5 @@
 -- The least of several sets of races.
+use Rattle.order_clocks.specs.declared.events.TheConstants.{EVENT_PLACES}
 use Rattle.std.proofs.Common.{◌≡◌, ℕ, ◌+◌, ◌⊎◌, ◌↔◌, ◌==◌, Bool, true, false, inl, inr, List, Option, Some, None, IsTrue, MatchOption, slice_index_or, refl, sym, ◌∙◌, arith}
 use Rattle.std.proofs.lemmas.Bool.{cases_lt, eq-eqb, true≢false}
 use Rattle.axis_sets.specs.Sets.{has}
@@ -148,8 +149,8 @@ between_skip meeting earlies events k old new none known = least_same (IsRaceBet
 )) known
 
 pub between_step : (meeting : Meeting) (earlies events : List (Option Event)) (k : ℕ) (late : Event) (old mid new : Option Race) → slice_index_or events k None ≡ Some late
-    → IsLeastWith (IsRaceBetween meeting earlies events k) old mid → IsLeastWith (IsRaceOver meeting earlies 10 late) mid new → IsLeastWith (IsRaceBetween meeting earlies events (k + 1)) old new
-between_step meeting earlies events k late old mid new here first second = least_both (IsRaceBetween meeting earlies events k) (IsRaceOver meeting earlies 10 late) (IsRaceBetween meeting earlies events (k + 1)) old mid new
+    → IsLeastWith (IsRaceBetween meeting earlies events k) old mid → IsLeastWith (IsRaceOver meeting earlies EVENT_PLACES late) mid new → IsLeastWith (IsRaceBetween meeting earlies events (k + 1)) old new
+between_step meeting earlies events k late old mid new here first second = least_both (IsRaceBetween meeting earlies events k) (IsRaceOver meeting earlies EVENT_PLACES late) (IsRaceBetween meeting earlies events (k + 1)) old mid new
     (λ q r. elim (cases_lt r.place k) [
       | inl less ↦ inl (record { place = r.place; within = less; late = r.late; there = r.there; race_of = r.race_of })
       | inr more ↦

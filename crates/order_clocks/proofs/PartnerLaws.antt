@@ -1,4 +1,5 @@
 -- Numbers of those that go on are one where chains of pairs join them.
+use Rattle.axis_sets.specs.declared.limits.TheConstants.{CHANNEL_PLACES}
 use Rattle.std.proofs.Common.{◌≡◌, ℕ, zero, suc, ◌<◌, ◌≤◌, ◌⊎◌, ◌==◌, ◌&&◌, ◌||◌, Bool, true, false, inl, inr, length, List, [], ◌∷◌, ◌++◌, Option, Some, None, refl, sym, ap, ◌∙◌, arith, if◌then◌else◌}
 use Rattle.std.specs.Prelude.{is_some, slice_index, slice_index_or}
 use Rattle.std.proofs.lemmas.Bool.{cases_Bool, cases_lt, eqb-true, eq-eqb, and_parts}
@@ -161,7 +162,7 @@ among_in (k ∷ ks) g (inr later) = or_true (k.channel == g.channel) (among (cha
 pub record AreRead (goes : List (Option Departure)) (gs : List Going) (b : Board) : Type 0 where
   pub from : (g : Going) → IsIn g gs → wait_in g.from ≡ wait_in (b.state g.channel)
   pub read : (c : ℕ) → IsGoingOf (slice_index_or goes c None) (going_of gs c)
-  pub size : length goes ≡ 9
+  pub size : length goes ≡ CHANNEL_PLACES
   pub none : slice_index_or goes 0 None ≡ None
 
 partners_to : (goes : List (Option Departure)) (gs : List Going) (b : Board) (c d : ℕ) → AreRead goes gs b → are_partners goes c d ≡ true
@@ -232,28 +233,28 @@ paired_partners goes gs b c d are pair = by_ends w.ends
     by_ends (inr e) = partners_from goes gs b c d are (rw e.1 at (among_in gs w.h w.h_there)) (rw e.0 at (among_in gs w.g w.g_there))
         (name_both_back (wait_in (b.state d)) (wait_in (b.state c)) d c (rw (e.0, e.1) at both))
 
-partner_below : (goes : List (Option Departure)) (gs : List Going) (b : Board) (c : ℕ) → AreRead goes gs b → among (channels_in gs) c ≡ true → (1 ≤ c) × (c < 9)
+partner_below : (goes : List (Option Departure)) (gs : List Going) (b : Board) (c : ℕ) → AreRead goes gs b → among (channels_in gs) c ≡ true → (1 ≤ c) × (c < CHANNEL_PLACES)
 partner_below goes gs b zero are on = by_read (slice_index_or goes 0 None) (going_of gs 0) refl are.none (are.read 0)
   where
-    by_read : (x : Option Departure) (v : Option Going) → going_of gs 0 ≡ v → x ≡ None → IsGoingOf x v → (1 ≤ 0) × (0 < 9)
+    by_read : (x : Option Departure) (v : Option Going) → going_of gs 0 ≡ v → x ≡ None → IsGoingOf x v → (1 ≤ 0) × (0 < CHANNEL_PLACES)
     by_read (Some x) v e none is = no_truth false (sym (ap is_some none)) refl
     by_read None (Some g) e none is = absurd is
     by_read None None e none is = no_truth false (sym (ap is_some e) ∙ (going_some gs 0 ∙ on)) refl
 partner_below goes gs b (suc c) are on = (
   omega arith,
-  elim (cases_lt (suc c) 9) [
+  elim (cases_lt (suc c) CHANNEL_PLACES) [
     | inl below ↦ below
     | inr past ↦ by_read (slice_index_or goes (suc c) None) (going_of gs (suc c)) refl (get_or-eq_default goes None (rw are.size past)) (are.read (suc c))
   ],
 )
   where
-    by_read : (x : Option Departure) (v : Option Going) → going_of gs (suc c) ≡ v → x ≡ None → IsGoingOf x v → suc c < 9
+    by_read : (x : Option Departure) (v : Option Going) → going_of gs (suc c) ≡ v → x ≡ None → IsGoingOf x v → suc c < CHANNEL_PLACES
     by_read (Some x) v e none is = no_truth false (sym (ap is_some none)) refl
     by_read None (Some g) e none is = absurd is
     by_read None None e none is = no_truth false (sym (ap is_some e) ∙ (going_some gs (suc c) ∙ on)) refl
 
 pair_joins : (goes : List (Option Departure)) (gs : List Going) (b : Board) (group : List ℕ) → AreRead goes gs b
-    → ((c d : ℕ) → 1 ≤ c → c < 9 → 1 ≤ d → d < 9 → are_partners goes c d ≡ true → slice_index group c ≡ slice_index group d)
+    → ((c d : ℕ) → 1 ≤ c → c < CHANNEL_PLACES → 1 ≤ d → d < CHANNEL_PLACES → are_partners goes c d ≡ true → slice_index group c ≡ slice_index group d)
     → (c d : ℕ) → ArePaired (pairs_of gs) c d → slice_index group c ≡ slice_index group d
 pair_joins goes gs b group are joined c d pair =
     let on = paired_partners goes gs b c d are pair in
@@ -274,9 +275,9 @@ same_tests p q r s to from = elim (cases_Bool (p == q)) [
 ]
 
 pub groups_are : (goes : List (Option Departure)) (gs : List Going) (b : Board) (group : List ℕ) → AreRead goes gs b
-    → ((c d : ℕ) → 1 ≤ c → c < 9 → 1 ≤ d → d < 9 → are_partners goes c d ≡ true → slice_index group c ≡ slice_index group d)
+    → ((c d : ℕ) → 1 ≤ c → c < CHANNEL_PLACES → 1 ≤ d → d < CHANNEL_PLACES → are_partners goes c d ≡ true → slice_index group c ≡ slice_index group d)
     → AreAllLinked (pairs_of gs) group
-    → (c d : ℕ) → c < 9 → d < 9 → (labels (pairs_of gs) d == labels (pairs_of gs) c) ≡ (slice_index group d == slice_index group c)
+    → (c d : ℕ) → c < CHANNEL_PLACES → d < CHANNEL_PLACES → (labels (pairs_of gs) d == labels (pairs_of gs) c) ≡ (slice_index group d == slice_index group c)
 groups_are goes gs b group are joined linked c d c_below d_below = same_tests (labels (pairs_of gs) d) (labels (pairs_of gs) c) (slice_index group d) (slice_index group c)
     (λ e. to (chained_from (pairs_of gs) d c e))
     (λ e. chained_to (pairs_of gs) d c (linked d c d_below c_below e))
@@ -285,8 +286,8 @@ groups_are goes gs b group are joined linked c d c_below d_below = same_tests (l
     to (inl same) = ap (slice_index group) same
     to (inr path) = chain_joins (pairs_of gs) group (pair_joins goes gs b group are joined) path.0 d c path.1
 
-pub given_below : (goes : List (Option Departure)) (c : ℕ) → length goes ≡ 9 → is_given (slice_index_or goes c None) ≡ true → c < 9
-given_below goes c size on = elim (cases_lt c 9) [
+pub given_below : (goes : List (Option Departure)) (c : ℕ) → length goes ≡ CHANNEL_PLACES → is_given (slice_index_or goes c None) ≡ true → c < CHANNEL_PLACES
+given_below goes c size on = elim (cases_lt c CHANNEL_PLACES) [
   | inl below ↦ below
   | inr past ↦ no_truth false (sym (ap is_given (get_or-eq_default goes None (rw size past))) ∙ on) refl
 ]

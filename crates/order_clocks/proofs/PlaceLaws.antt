@@ -1,4 +1,5 @@
 -- What the arrays of last places show.
+use Rattle.axis_sets.specs.declared.limits.TheConstants.{AXIS_LIMIT, CHANNEL_PLACES, MARK_LIMIT}
 use Rattle.std.proofs.Common.{◌≡◌, ℕ, suc, ◌<◌, ◌⊎◌, ◌==◌, ◌&&◌, max, Bool, true, false, inl, inr, List, [], ◌∷◌, ◌++◌, map, Option, Some, None, slice_index_or, replicate, refl, sym, ap, ◌∙◌, arith, if◌then◌else◌}
 use Rattle.std.proofs.lemmas.Bool.{cases_Bool, eqb-true, eq-eqb, and_parts, true≢false}
 use Rattle.axis_sets.specs.Sets.{members_of}
@@ -201,9 +202,9 @@ racy_back run tracks i deed rows p limit is tracked are last limits racy =
 
 -- before all events
 pub zero_spots : (p : Places) (row : List ℕ) → ((y : ℕ) → count_of row y ≡ 0)
-    → p.lowered ≡ replicate 10 (replicate 9 row) → p.needed ≡ replicate 10 (replicate 9 row) → p.took ≡ replicate 16 row → p.touched ≡ replicate 9 row
+    → p.lowered ≡ replicate MARK_LIMIT (replicate CHANNEL_PLACES row) → p.needed ≡ replicate MARK_LIMIT (replicate CHANNEL_PLACES row) → p.took ≡ replicate AXIS_LIMIT row → p.touched ≡ replicate CHANNEL_PLACES row
     → (t : Trace) (x : ℕ) → count_of (spot_at p t) x ≡ 0
-zero_spots p row none lowered needed took touched (Lowered c m) x = ap (λ (r : List (List (List ℕ))). count_of (slice_index_or (slice_index_or r m []) c []) x) lowered ∙ zero_rows 10 9 m c x row none
-zero_spots p row none lowered needed took touched (Needed c m) x = ap (λ (r : List (List (List ℕ))). count_of (slice_index_or (slice_index_or r m []) c []) x) needed ∙ zero_rows 10 9 m c x row none
-zero_spots p row none lowered needed took touched (Took a) x = ap (λ (r : List (List ℕ)). count_of (slice_index_or r a []) x) took ∙ zero_row 16 a x row none
-zero_spots p row none lowered needed took touched (Touched c) x = ap (λ (r : List (List ℕ)). count_of (slice_index_or r c []) x) touched ∙ zero_row 9 c x row none
+zero_spots p row none lowered needed took touched (Lowered c m) x = ap (λ (r : List (List (List ℕ))). count_of (slice_index_or (slice_index_or r m []) c []) x) lowered ∙ zero_rows MARK_LIMIT CHANNEL_PLACES m c x row none
+zero_spots p row none lowered needed took touched (Needed c m) x = ap (λ (r : List (List (List ℕ))). count_of (slice_index_or (slice_index_or r m []) c []) x) needed ∙ zero_rows MARK_LIMIT CHANNEL_PLACES m c x row none
+zero_spots p row none lowered needed took touched (Took a) x = ap (λ (r : List (List ℕ)). count_of (slice_index_or r a []) x) took ∙ zero_row AXIS_LIMIT a x row none
+zero_spots p row none lowered needed took touched (Touched c) x = ap (λ (r : List (List ℕ)). count_of (slice_index_or r c []) x) touched ∙ zero_row CHANNEL_PLACES c x row none

@@ -1,4 +1,5 @@
 -- One entry more is read.
+use Rattle.axis_sets.specs.declared.limits.TheConstants.{CHANNEL_PLACES}
 use Rattle.std.proofs.Common.{◌≡◌, ℕ, suc, ◌<◌, Bool, false, List, length, slice_index_or, sym, ap, ◌∙◌}
 use Rattle.counter_rows.specs.declared.table.StepRows.{StepRows}
 use Rattle.order_clocks.specs.Clocked.{moves_in}
@@ -65,7 +66,7 @@ next_reader b es place one alarms deed r watch times entry reader read sound kee
 pub read_at : (b : Board) (es : List EntryView) (place : ℕ) (one : EntryView) (alarms : Bool) (deed : Deed) (rows : StepRows) (watch : Watch) → EntryRead b es place one alarms
     → IsRead deed (happening_of (board_at b (moves_in es) place) one.channel one.step)
     → WatchIsSound watch → Keeps watch (after_step (board_at b (moves_in es) place) one.channel one.step)
-    → goes_in deed 0 ≡ false → length deed.goes ≡ 9
+    → goes_in deed 0 ≡ false → length deed.goes ≡ CHANNEL_PLACES
     → (IsStep (course_of b (moves_in es)) place deed → AreRows (course_of b (moves_in es)) place rows)
     → IsReadAt b (moves_in es) place (record { deed = deed; rows = rows }) watch
 read_at b es place one alarms deed rows watch entry read sound keeps none size are =

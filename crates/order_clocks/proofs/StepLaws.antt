@@ -1,4 +1,5 @@
 -- What the arrays of a step show.
+use Rattle.axis_sets.specs.declared.limits.TheConstants.{CHANNEL_PLACES}
 use Rattle.std.proofs.Common.{◌≡◌, ℕ, suc, ◌+◌, ◌^◌, ◌<◌, ◌≤◌, ◌==◌, ◌&&◌, max, Bool, true, false, inl, inr, List, [], ◌∷◌, map, filter, length, Option, Some, None, slice_index, slice_index_or, refl, sym, ap, ◌∙◌, arith, if◌then◌else◌}
 use Rattle.order_clocks.specs.Happenings.{Key, Raised, Freed, Started, Ended}
 use Rattle.order_clocks.specs.Chains.{IsIn}
@@ -83,8 +84,8 @@ group_is run i deed goes c x is same here =
     ∙ (ap (λ (b : Bool). b && (run.group i x == run.group i c)) (is.goers x ∙ sym (same x))
     ∙ both_same (has goes x) (run.group i x == run.group i c) (slice_index deed.group x == slice_index deed.group c) (λ on. is.group c x here (sym (same x) ∙ on)))
 
-pub below_nine : (goes : List Bool) (c : ℕ) → length goes ≡ 9 → has goes c ≡ true → c < 9
-below_nine goes c size on = elim (cases_lt c 9) [
+pub below_nine : (goes : List Bool) (c : ℕ) → length goes ≡ CHANNEL_PLACES → has goes c ≡ true → c < CHANNEL_PLACES
+below_nine goes c size on = elim (cases_lt c CHANNEL_PLACES) [
   | inl below ↦ below
   | inr past ↦ absurd (true≢false (sym on ∙ get_or-eq_default goes false (omega arith)))
 ]
@@ -98,8 +99,8 @@ own_shows run i s deed t c x is shows here =
     ∙ ap (λ (n : ℕ). max (s.past c x) n) (top_alike (λ k. s.last k x) (λ k. s.last k x) (keys_of c (departure_of deed c)) (run.asks i c) (λ k w. ((is.asks c here k).1 w, refl)) (λ k w. ((is.asks c here k).0 w, refl))))
 
 pub go_shows : (run : Course) (i : ℕ) (s : LastRows) (deed : Deed) (t : Times) (goes : List Bool) (own : List (List ℕ)) (c x : ℕ)
-    → IsStep run i deed → Shows t s → ((d : ℕ) → has goes d ≡ goes_in deed d) → length goes ≡ 9
-    → ((d y : ℕ) → d < 9 → count_of (slice_index_or own d []) y ≡ max (count_of (slice_index_or t.past d []) y) (top (λ k. count_of (row_at t k) y) (keys_of d (departure_of deed d))))
+    → IsStep run i deed → Shows t s → ((d : ℕ) → has goes d ≡ goes_in deed d) → length goes ≡ CHANNEL_PLACES
+    → ((d y : ℕ) → d < CHANNEL_PLACES → count_of (slice_index_or own d []) y ≡ max (count_of (slice_index_or t.past d []) y) (top (λ k. count_of (row_at t k) y) (keys_of d (departure_of deed d))))
     → goes_in deed c ≡ true
     → joint_count own goes deed.group (slice_index deed.group c) x ≡ go_row run i s (run.group i c) x
 unfolding go_row
@@ -107,13 +108,13 @@ go_shows run i s deed t goes own c x is shows same size owns here =
     let g = slice_index deed.group c in
     let test : among (members run i (run.group i c)) x ≡ in_group goes deed.group g x = group_is run i deed goes c x is same here in
     let most : joint_top own goes deed.group g x ≡ top (λ d. own_row run i s d x) (members run i (run.group i c)) =
-    top_alike (λ d. count_of (slice_index_or own d []) x) (λ d. own_row run i s d x) (filter (in_group goes deed.group g) (range_with_len 0 9)) (members run i (run.group i c))
+    top_alike (λ d. count_of (slice_index_or own d []) x) (λ d. own_row run i s d x) (filter (in_group goes deed.group g) (range_with_len 0 CHANNEL_PLACES)) (members run i (run.group i c))
     (λ d within.
-    let on : in_group goes deed.group g d ≡ true = sym (contains_group goes deed.group g d size) ∙ contains_from (filter (in_group goes deed.group g) (range_with_len 0 9)) d within in
+    let on : in_group goes deed.group g d ≡ true = sym (contains_group goes deed.group g d size) ∙ contains_from (filter (in_group goes deed.group g) (range_with_len 0 CHANNEL_PLACES)) d within in
     (is_in (members run i (run.group i c)) d (group_is run i deed goes c d is same here ∙ on), alike d on))
     (λ d within.
     let on : in_group goes deed.group g d ≡ true = sym (group_is run i deed goes c d is same here) ∙ contains_from (members run i (run.group i c)) d within in
-    (is_in (filter (in_group goes deed.group g) (range_with_len 0 9)) d (contains_group goes deed.group g d size ∙ on), alike d on)) in
+    (is_in (filter (in_group goes deed.group g) (range_with_len 0 CHANNEL_PLACES)) d (contains_group goes deed.group g d size ∙ on), alike d on)) in
     ap (λ (b : Bool). if b then suc (joint_top own goes deed.group g x) else joint_top own goes deed.group g x) (sym test)
     ∙ ap (λ (n : ℕ). if among (members run i (run.group i c)) x then suc n else n) most
   where
@@ -180,11 +181,11 @@ top_room f (x ∷ xs) n low all =
     elim (cases_lt (f x) (top f xs)) [ inl h ↦ omega arith | inr h ↦ omega arith ]
 
 pub joint_room : (t : Times) (goes : List Bool) (gone : List (Option Departure)) (group : List ℕ) (own : List (List ℕ)) (g x : ℕ) → HasRoom t 1
-    → ((d y : ℕ) → d < 9 → count_of (slice_index_or own d []) y ≡ max (count_of (slice_index_or t.past d []) y) (top (λ k. count_of (row_at t k) y) (keys_of d (slice_index_or gone d None))))
+    → ((d y : ℕ) → d < CHANNEL_PLACES → count_of (slice_index_or own d []) y ≡ max (count_of (slice_index_or t.past d []) y) (top (λ k. count_of (row_at t k) y) (keys_of d (slice_index_or gone d None))))
     → joint_top own goes group g x + 1 < 2 ^ 64
 joint_room t goes gone group own g x room owns =
-    top_room (λ d. count_of (slice_index_or own d []) x) (filter (in_group goes group g) (range_with_len 0 9)) (2 ^ 64) (omega arith) (λ d within.
-    let r = in_range (in_group goes group g) 0 9 d within in
+    top_room (λ d. count_of (slice_index_or own d []) x) (filter (in_group goes group g) (range_with_len 0 CHANNEL_PLACES)) (2 ^ 64) (omega arith) (λ d within.
+    let r = in_range (in_group goes group g) 0 CHANNEL_PLACES d within in
     let is = owns d x (omega arith) in
     let one = room.past d x in
     let two = top_room (λ k. count_of (row_at t k) x) (keys_of d (slice_index_or gone d None)) (2 ^ 64) (omega arith) (λ k _. room.last k x) in

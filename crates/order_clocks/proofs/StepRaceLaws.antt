@@ -1,4 +1,6 @@
 -- The races between two steps are those between their events.
+use Rattle.order_clocks.specs.declared.events.TheConstants.{EVENT_PLACES}
+use Rattle.axis_sets.specs.declared.limits.TheConstants.{CHANNEL_PLACES}
 use Rattle.std.proofs.Common.{◌≡◌, ℕ, suc, ◌<◌, ◌↔◌, Bool, true, false, inl, inr, List, Option, Some, None, slice_index_or, refl, sym, ap, ◌∙◌, arith}
 use Rattle.std.proofs.lemmas.Bool.{cases_lt, cases_eq, true≢false}
 use Rattle.counter_rows.specs.Rows.{count_of}
@@ -50,18 +52,18 @@ pub record HasName (run : Course) (tracks : Tracks) (i : ℕ) (e : Event) : Type
   pub is : IsEventOf run tracks name e
 
 pub event_named : (run : Course) (tracks : Tracks) (i k : ℕ) (deed : Deed) (rows : StepRows) (events : List (Option Event)) (e : Event) → IsKnownStep run tracks i deed rows → AreEvents deed rows events
-    → k < 10 → slice_index_or events k None ≡ Some e → HasName run tracks i e
+    → k < EVENT_PLACES → slice_index_or events k None ≡ Some e → HasName run tracks i e
 event_named run tracks i k deed rows events e known are below there = elim (cases_eq k 0) [
   | inl first ↦
       let bad : None ≡ Some e = sym are.none ∙ (ap (λ (n : ℕ). slice_index_or events n None) (sym first) ∙ there) in
       absurd (cc)
-  | inr later ↦ elim (cases_lt k 9) [
+  | inr later ↦ elim (cases_lt k CHANNEL_PLACES) [
     | inl low ↦
         let at : IsGoEvent deed.goes rows.goes k e = rw there at (are.go k (omega arith) low) in
         record { name = go_name i k; step = refl; is = go_named run tracks i k deed rows e known at }
     | inr high ↦
-        let last : k ≡ 9 = omega arith in
-        let here : slice_index_or events 9 None ≡ Some e = rw last at there in
+        let last : k ≡ CHANNEL_PLACES = omega arith in
+        let here : slice_index_or events CHANNEL_PLACES None ≡ Some e = rw last at there in
         let at : IsActEvent deed rows.act e = rw here at are.act in
         record { name = act_name i deed.channel; step = refl; is = act_named run tracks i deed rows e known at }
   ]
@@ -70,17 +72,17 @@ event_named run tracks i k deed rows events e known are below there = elim (case
 -- an event of the list for each name
 pub record HasPlace (run : Course) (tracks : Tracks) (events : List (Option Event)) (name : EventId) : Type 0 where
   pub place : ℕ
-  pub within : place < 10
+  pub within : place < EVENT_PLACES
   pub event : Event
   pub there : slice_index_or events place None ≡ Some event
   pub is : IsEventOf run tracks name event
 
-act_found : (run : Course) (tracks : Tracks) (i : ℕ) (deed : Deed) (rows : StepRows) (events : List (Option Event)) (found : Option Event) → slice_index_or events 9 None ≡ found
+act_found : (run : Course) (tracks : Tracks) (i : ℕ) (deed : Deed) (rows : StepRows) (events : List (Option Event)) (found : Option Event) → slice_index_or events CHANNEL_PLACES None ≡ found
     → IsKnownStep run tracks i deed rows → IsActAt deed rows.act found → HasPlace run tracks events (act_name i deed.channel)
-act_found run tracks i deed rows events (Some e) there known act = record { place = 9; within = omega arith; event = e; there = there; is = act_named run tracks i deed rows e known act }
+act_found run tracks i deed rows events (Some e) there known act = record { place = CHANNEL_PLACES; within = omega arith; event = e; there = there; is = act_named run tracks i deed rows e known act }
 act_found run tracks i deed rows events None there known act = absurd act
 
-go_found : (run : Course) (tracks : Tracks) (i c : ℕ) (deed : Deed) (rows : StepRows) (events : List (Option Event)) (found : Option Event) → slice_index_or events c None ≡ found → c < 9
+go_found : (run : Course) (tracks : Tracks) (i c : ℕ) (deed : Deed) (rows : StepRows) (events : List (Option Event)) (found : Option Event) → slice_index_or events c None ≡ found → c < CHANNEL_PLACES
     → IsKnownStep run tracks i deed rows → goes_in deed c ≡ true → IsGoAt deed.goes rows.goes c found → HasPlace run tracks events (go_name i c)
 go_found run tracks i c deed rows events (Some e) there below known here go = record { place = c; within = omega arith; event = e; there = there; is = go_named run tracks i c deed rows e known go }
 go_found run tracks i c deed rows events None there below known here go = absurd (true≢false (sym here ∙ go))
@@ -91,19 +93,19 @@ named_event run tracks deed rows events i j c true known are same event =
     let here : among (run.goers i) c ≡ true = rw same at event in
     let goes : goes_in deed c ≡ true = sym (known.is.goers c) ∙ here in
     let size = known.size in
-    let below : c < 9 = elim (cases_lt c 9) [ inl low ↦ low | inr high ↦ absurd (true≢false (sym goes ∙ past_gone deed.goes c (omega arith))) ] in
+    let below : c < CHANNEL_PLACES = elim (cases_lt c CHANNEL_PLACES) [ inl low ↦ low | inr high ↦ absurd (true≢false (sym goes ∙ past_gone deed.goes c (omega arith))) ] in
     let above : 0 < c = elim (cases_eq c 0) [ inl none ↦ absurd (true≢false (sym goes ∙ (ap (λ (n : ℕ). goes_in deed n) none ∙ known.from_one))) | inr some ↦ omega arith ] in
     rw same (go_found run tracks i c deed rows events (slice_index_or events c None) refl below known goes (are.go c above below))
 named_event run tracks deed rows events i j c false known are same event =
     let here : c ≡ deed.channel = sym event ∙ (ap (λ (k : ℕ). run.actor k) same ∙ known.is.actor) in
-    rw (same, here) (act_found run tracks i deed rows events (slice_index_or events 9 None) refl known are.act)
+    rw (same, here) (act_found run tracks i deed rows events (slice_index_or events CHANNEL_PLACES None) refl known are.act)
 
 pub step_races : (run : Course) (tracks : Tracks) (j i : ℕ) (early late : Deed) (early_rows late_rows : StepRows) (earlies lates : List (Option Event)) (race : Race)
     → IsKnownStep run tracks j early early_rows → IsKnownStep run tracks i late late_rows → AreEvents early early_rows earlies → AreEvents late late_rows lates → j < i
-    → IsRaceBetween Later earlies lates 10 race ↔ IsStepRace run tracks j i race
+    → IsRaceBetween Later earlies lates EVENT_PLACES race ↔ IsStepRace run tracks j i race
 step_races run tracks j i early late early_rows late_rows earlies lates race known_early known_late are_early are_late less = (to, back)
   where
-    to : IsRaceBetween Later earlies lates 10 race → IsStepRace run tracks j i race
+    to : IsRaceBetween Later earlies lates EVENT_PLACES race → IsStepRace run tracks j i race
     to r =
         let b = event_named run tracks i r.place late late_rows lates r.late known_late are_late r.within r.there in
         let o = r.race_of in
@@ -118,7 +120,7 @@ step_races run tracks j i early late early_rows late_rows earlies lates race kno
           apart = apart_from run tracks a.name b.name o.early r.late race a.is b.is (omega arith) o.race_of;
         }
 
-    back : IsStepRace run tracks j i race → IsRaceBetween Later earlies lates 10 race
+    back : IsStepRace run tracks j i race → IsRaceBetween Later earlies lates EVENT_PLACES race
     back r =
         let p = r.apart.apart in
         let a = named_event run tracks early early_rows earlies j r.early.step r.early.channel r.early.go known_early are_early r.early_step p.first in
@@ -168,8 +170,8 @@ none_earlier run tracks i old none = least_none (IsEarlierRace run tracks i i) o
 -- one earlier step more, as its events give it
 pub earlier_more : (run : Course) (tracks : Tracks) (j i : ℕ) (early late : Deed) (early_rows late_rows : StepRows) (earlies lates : List (Option Event)) (old mid new : Option Race)
     → IsKnownStep run tracks j early early_rows → IsKnownStep run tracks i late late_rows → AreEvents early early_rows earlies → AreEvents late late_rows lates → j < i
-    → IsLeastWith (IsEarlierRace run tracks j i) old mid → IsLeastWith (IsRaceBetween Later earlies lates 10) mid new → IsLeastWith (IsEarlierRace run tracks (suc j) i) old new
+    → IsLeastWith (IsEarlierRace run tracks j i) old mid → IsLeastWith (IsRaceBetween Later earlies lates EVENT_PLACES) mid new → IsLeastWith (IsEarlierRace run tracks (suc j) i) old new
 earlier_more run tracks j i early late early_rows late_rows earlies lates old mid new known_early known_late are_early are_late less first second =
     earlier_step run tracks j i old mid new first
-    (least_same (IsRaceBetween Later earlies lates 10) (IsStepRace run tracks j i) mid new
+    (least_same (IsRaceBetween Later earlies lates EVENT_PLACES) (IsStepRace run tracks j i) mid new
     (λ q. step_races run tracks j i early late early_rows late_rows earlies lates q known_early known_late are_early are_late less) second)

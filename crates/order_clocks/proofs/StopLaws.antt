@@ -1,4 +1,5 @@
 -- Which channels have acted and have alarmed at the end of a run.
+use Rattle.axis_sets.specs.declared.limits.TheConstants.{CHANNEL_PLACES}
 use Rattle.std.proofs.Common.{◌≡◌, ℕ, zero, suc, add-one, ◌-◌, ◌+◌, ◌<◌, ◌==◌, ◌||◌, not, Bool, true, false, cond, inl, inr, length, List, [], ◌∷◌, map, filter, refl, sym, ap, ◌∙◌, arith}
 use Rattle.std.specs.Prelude.{slice_index_or, slice_set}
 use Rattle.std.specs.List.{range_with_len}
@@ -121,7 +122,7 @@ ends_are b (c ∷ cs) are over = by_state (b.state c) refl (over c (here (c == c
     by_state (HasAlarmed code line) e off rest = rw (are c (ap is_idle e), e) (ap (λ (bs : List Bool). true ∷ bs) rest ∙ ap (λ (t : Bool). t ∷ (map (λ d. is_alarmed (b.state d)) (filter (λ d. not (is_idle (b.state d))) cs))) (sym (ap is_alarmed e)))
 
 -- the last places, one entry more
-pub last_more : (chs : List ℕ) (i : ℕ) (places : List ℕ) → length places ≡ 9 → channel_at chs i < 9 → AreLastPlaces chs i places → AreLastPlaces chs (i + 1) (slice_set places (channel_at chs i) (i + 1))
+pub last_more : (chs : List ℕ) (i : ℕ) (places : List ℕ) → length places ≡ CHANNEL_PLACES → channel_at chs i < CHANNEL_PLACES → AreLastPlaces chs i places → AreLastPlaces chs (i + 1) (slice_set places (channel_at chs i) (i + 1))
 last_more chs i places size below are = record {
   none = λ d absent.
       other d (λ e. absent i (omega arith) (sym e)) ∙ are.none d (λ j low. absent j (omega arith));
@@ -159,13 +160,13 @@ entry_channel [] i e within = absurd (omega arith)
 entry_channel (x ∷ xs) zero e within = refl
 entry_channel (x ∷ xs) (suc i) e within = entry_channel xs i e (omega arith)
 
-pub filter_from : (p : ℕ → Bool) (c : ℕ) → c < 9 → filter p (range_with_len c (9 - c)) ≡ cond (p c) (c ∷ filter p (range_with_len (c + 1) (9 - (c + 1)))) (filter p (range_with_len (c + 1) (9 - (c + 1))))
+pub filter_from : (p : ℕ → Bool) (c : ℕ) → c < CHANNEL_PLACES → filter p (range_with_len c (CHANNEL_PLACES - c)) ≡ cond (p c) (c ∷ filter p (range_with_len (c + 1) (CHANNEL_PLACES - (c + 1)))) (filter p (range_with_len (c + 1) (CHANNEL_PLACES - (c + 1))))
 filter_from p c below =
-    let e : 9 - c ≡ suc (9 - (c + 1)) = omega arith in
+    let e : CHANNEL_PLACES - c ≡ suc (CHANNEL_PLACES - (c + 1)) = omega arith in
     rw (e, add-one) refl
 
-pub filter_on : (p : ℕ → Bool) (c : ℕ) → c < 9 → p c ≡ true → filter p (range_with_len c (9 - c)) ≡ c ∷ filter p (range_with_len (c + 1) (9 - (c + 1)))
+pub filter_on : (p : ℕ → Bool) (c : ℕ) → c < CHANNEL_PLACES → p c ≡ true → filter p (range_with_len c (CHANNEL_PLACES - c)) ≡ c ∷ filter p (range_with_len (c + 1) (CHANNEL_PLACES - (c + 1)))
 filter_on p c below on = filter_from p c below ∙ rw on refl
 
-pub filter_off : (p : ℕ → Bool) (c : ℕ) → c < 9 → p c ≡ false → filter p (range_with_len c (9 - c)) ≡ filter p (range_with_len (c + 1) (9 - (c + 1)))
+pub filter_off : (p : ℕ → Bool) (c : ℕ) → c < CHANNEL_PLACES → p c ≡ false → filter p (range_with_len c (CHANNEL_PLACES - c)) ≡ filter p (range_with_len (c + 1) (CHANNEL_PLACES - (c + 1)))
 filter_off p c below off = filter_from p c below ∙ rw off refl

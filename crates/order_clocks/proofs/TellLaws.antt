@@ -1,4 +1,5 @@
 -- What the code keeps of waits and marks stays what the board has.
+use Rattle.axis_sets.specs.declared.limits.TheConstants.{AXIS_LIMIT}
 use Rattle.std.proofs.Common.{◌≡◌, ℕ, ◌<◌, ◌==◌, ◌&&◌, ◌||◌, not, Bool, true, false, inl, inr, List, [], ◌∷◌, map, Option, Some, None, refl, sym, ap, ◌∙◌, arith, if◌then◌else◌}
 use Rattle.std.specs.Prelude.{is_some, option_map, slice_index_or}
 use Rattle.std.proofs.lemmas.Bool.{cases_Bool, cases_lt, eqb-true, eq-eqb}
@@ -197,13 +198,13 @@ asked_by_wait (IsHolding (AtEnds named) line) = refl
 asked_by_wait (IsHolding (AtAxes axes) line) = refl
 asked_by_wait other = refl
 
-asked_below : (held : Option HoldAtLine) (x : ℕ) → WaitIsSound held → among (asked_in (wait_shown held)) x ≡ true → x < 16
+asked_below : (held : Option HoldAtLine) (x : ℕ) → WaitIsSound held → among (asked_in (wait_shown held)) x ≡ true → x < AXIS_LIMIT
 asked_below (Some held) x sound on = by_hold held.hold held.line sound on
   where
-    by_hold : (h : code.Hold) (line : ℕ) → WaitIsSound (Some (record { hold = h; line = line })) → among (asked_in (wait_shown (Some (record { hold = h; line = line })))) x ≡ true → x < 16
+    by_hold : (h : code.Hold) (line : ℕ) → WaitIsSound (Some (record { hold = h; line = line })) → among (asked_in (wait_shown (Some (record { hold = h; line = line })))) x ≡ true → x < AXIS_LIMIT
     by_hold (Marks n named) line fits there = no_truth false there refl
     by_hold (Ends named) line fits there = no_truth false there refl
-    by_hold (Axes axes) line fits there = elim (cases_lt x 16) [
+    by_hold (Axes axes) line fits there = elim (cases_lt x AXIS_LIMIT) [
       | inl below ↦ below
       | inr past ↦ no_truth (has axes x) (sym (list_any-members_of axes x) ∙ there) (get_or-eq_default axes false (rw fits past))
     ]
@@ -214,7 +215,7 @@ took_read : (b : Board) (g : Going) (held : Option HoldAtLine) (x : ℕ) → Goe
 took_read b g held x from sound e =
     let same : is_at_axes held ≡ waits_for_axes g.from = kept_axes held ∙ (ap wait_axes e ∙ sym (axes_by_wait g.from)) in
     elim (cases_Bool (waits_for_axes g.from)) [
-      | inl on ↦ rw (same, on) (elim (cases_lt x 16) [
+      | inl on ↦ rw (same, on) (elim (cases_lt x AXIS_LIMIT) [
         | inl below ↦ from.positions on x below
         | inr past ↦ from.past on x past ∙ sym (false_by (among g.took x) (λ there.
             let low = asked_below held x sound (rw (asked_by_wait g.from, sym e) at (from.took x there)) in

@@ -1,4 +1,5 @@
 -- What a step leaves and minds, as the code has read it.
+use Rattle.axis_sets.specs.declared.limits.TheConstants.{CHANNEL_PLACES}
 use Rattle.std.proofs.Common.{◌≡◌, ℕ, ◌==◌, ◌&&◌, Bool, true, false, inl, inr, List, [], Option, Some, None, length, refl, sym, ap, ◌∙◌}
 use Rattle.std.proofs.lemmas.Bool.{eqb-true, eq-eqb, and_parts, and_from, false≢true}
 use Rattle.axis_sets.specs.Sets.{has}
@@ -212,7 +213,7 @@ read_tracked b ms i deed read = record {
       );
 }
 
-pub read_known : (b : Board) (ms : List Move) (i : ℕ) (deed : Deed) (rows : StepRows) → IsRead deed (happening_at b ms i) → AreRows (course_of b ms) i rows → goes_in deed 0 ≡ false → length deed.goes ≡ 9
+pub read_known : (b : Board) (ms : List Move) (i : ℕ) (deed : Deed) (rows : StepRows) → IsRead deed (happening_at b ms i) → AreRows (course_of b ms) i rows → goes_in deed 0 ≡ false → length deed.goes ≡ CHANNEL_PLACES
     → IsKnownStep (course_of b ms) (tracks_of b ms) i deed rows
 read_known b ms i deed rows read are none size = record {
   is = read_step b ms i deed read;

@@ -1,4 +1,5 @@
 -- Those that go on, one channel after another.
+use Rattle.axis_sets.specs.declared.limits.TheConstants.{CHANNEL_PLACES}
 use Rattle.std.proofs.Common.{◌≡◌, ℕ, zero, suc, ◌+◌, ◌<◌, ◌≤◌, ◌==◌, ◌⊎◌, length, ◌&&◌, ◌||◌, not, Bool, true, false, inl, inr, List, [], ◌∷◌, Option, Some, None, refl, sym, ap, ◌∙◌, arith, if◌then◌else◌, nat_lt}
 use Rattle.std.specs.Prelude.{is_some, find}
 use Rattle.std.specs.List.{list_any}
@@ -107,10 +108,10 @@ marks_more false false false h wait m = twice h
 pub is_absent : (goes : List Go) (goers : List Bool) (c : ℕ) → ((d : ℕ) → has goers d ≡ list_any (λ go. go.channel == d) goes) → has goers c ≡ false → go_in goes c ≡ None
 is_absent goes goers c are off = not_found (λ go. go.channel == c) goes (sym (are c) ∙ off)
 
-pub all_done : (goers : List Bool) (c : ℕ) → has goers 0 ≡ false → length goers ≡ 9 → (is_done 9 c ≡ true) ⊎ (has goers c ≡ false)
+pub all_done : (goers : List Bool) (c : ℕ) → has goers 0 ≡ false → length goers ≡ CHANNEL_PLACES → (is_done CHANNEL_PLACES c ≡ true) ⊎ (has goers c ≡ false)
 all_done goers zero from size = inr from
-all_done goers (suc c) from size = elim (cases_lt (suc c) 9) [
-  | inl below ↦ inl (on_true (suc c == 0) (nat_lt (suc c) 9) (not_zero (suc c) (omega arith)) (lt-ltb (suc c) 9 below))
+all_done goers (suc c) from size = elim (cases_lt (suc c) CHANNEL_PLACES) [
+  | inl below ↦ inl (on_true (suc c == 0) (nat_lt (suc c) CHANNEL_PLACES) (not_zero (suc c) (omega arith)) (lt-ltb (suc c) CHANNEL_PLACES below))
   | inr past ↦ inr (get_or-eq_default goers false (rw size past))
 ]
 
@@ -122,20 +123,20 @@ not_done n = off (not (n == 0)) (nat_lt n n) (elim (cases_Bool (nat_lt n n)) [ i
     off false b e = refl
 
 -- of those that are not there it is no matter whether they are done
-pub all_found : (goes : List Go) (goers : List Bool) (c : ℕ) → ((d : ℕ) → has goers d ≡ list_any (λ go. go.channel == d) goes) → has goers 0 ≡ false → length goers ≡ 9
-    → (is_done 9 c && is_some (go_in goes c)) ≡ is_some (go_in goes c)
+pub all_found : (goes : List Go) (goers : List Bool) (c : ℕ) → ((d : ℕ) → has goers d ≡ list_any (λ go. go.channel == d) goes) → has goers 0 ≡ false → length goers ≡ CHANNEL_PLACES
+    → (is_done CHANNEL_PLACES c && is_some (go_in goes c)) ≡ is_some (go_in goes c)
 all_found goes goers c are from size = elim (all_done goers c from size) [
   | inl on ↦ rw on refl
-  | inr off ↦ rw (is_absent goes goers c are off) (none (is_done 9 c))
+  | inr off ↦ rw (is_absent goes goers c are off) (none (is_done CHANNEL_PLACES c))
 ]
   where
     none : (t : Bool) → (t && false) ≡ false
     none true = refl
     none false = refl
 
-pub out_of_done : (c : ℕ) → is_done 9 c ≡ false → (c ≡ 0) ⊎ (9 ≤ c)
+pub out_of_done : (c : ℕ) → is_done CHANNEL_PLACES c ≡ false → (c ≡ 0) ⊎ (CHANNEL_PLACES ≤ c)
 out_of_done zero off = inl refl
-out_of_done (suc c) off = elim (cases_lt (suc c) 9) [
-  | inl below ↦ no_truth (is_done 9 (suc c)) (on_true (suc c == 0) (nat_lt (suc c) 9) (not_zero (suc c) (omega arith)) (lt-ltb (suc c) 9 below)) off
+out_of_done (suc c) off = elim (cases_lt (suc c) CHANNEL_PLACES) [
+  | inl below ↦ no_truth (is_done CHANNEL_PLACES (suc c)) (on_true (suc c == 0) (nat_lt (suc c) CHANNEL_PLACES) (not_zero (suc c) (omega arith)) (lt-ltb (suc c) CHANNEL_PLACES below)) off
   | inr past ↦ inr past
 ]

@@ -1,4 +1,5 @@
 -- A whole run: its entries are what happens on the board, and its ends say which of its steps alarm.
+use Rattle.axis_sets.specs.declared.limits.TheConstants.{CHANNEL_PLACES}
 use Rattle.std.proofs.Common.{◌≡◌, ℕ, zero, suc, ◌+◌, ◌<◌, ◌≤◌, ◌⊎◌, ◌↔◌, ◌==◌, ◌&&◌, ◌||◌, not, Bool, true, false, cond, inl, inr, length, List, [], ◌∷◌, map, filter, Option, Some, None, refl, sym, ap, ◌∙◌, arith, if◌then◌else◌}
 use Rattle.std.specs.Prelude.{is_some, slice_index_or}
 use Rattle.std.specs.List.{range_with_len}
@@ -107,8 +108,8 @@ filter_alike p q (x ∷ xs) same = rw (same x (here (x == x) (among xs x) (eq-eq
 
 -- which steps alarm
 pub stops_tell : (b : Board) (es : List EntryView) (ends : List ChannelEnd) (last : List ℕ) (alarmed : List Bool) → IsWhole b es ends → AreLastPlaces (map (λ e. e.channel) es) (length es) last
-    → ((i : ℕ) → i < length es → (1 ≤ channel_at (map (λ e. e.channel) es) i) × (channel_at (map (λ e. e.channel) es) i < 9))
-    → ((f : ℕ → Bool) → alarms_in ends ≡ map f (filter (are_acted last) channel_numbers) → (c : ℕ) → 1 ≤ c → c < 9 → are_acted last c ≡ true → has alarmed c ≡ f c)
+    → ((i : ℕ) → i < length es → (1 ≤ channel_at (map (λ e. e.channel) es) i) × (channel_at (map (λ e. e.channel) es) i < CHANNEL_PLACES))
+    → ((f : ℕ → Bool) → alarms_in ends ≡ map f (filter (are_acted last) channel_numbers) → (c : ℕ) → 1 ≤ c → c < CHANNEL_PLACES → are_acted last c ≡ true → has alarmed c ≡ f c)
     → TellsAlarms b (moves_in es) (record { last = last; alarmed = alarmed })
 stops_tell b es ends last alarmed whole places numbers flags = record { alarm = at }
   where

@@ -1,4 +1,6 @@
 -- The races of one step: those with a wait that goes on, those of two that go on, and those with an earlier step.
+use Rattle.order_clocks.specs.declared.events.TheConstants.{EVENT_PLACES}
+use Rattle.axis_sets.specs.declared.limits.TheConstants.{CHANNEL_PLACES}
 use Rattle.std.proofs.Common.{◌≡◌, ℕ, ◌<◌, ◌⊎◌, ◌↔◌, ◌==◌, Bool, true, false, inl, inr, List, Option, Some, None, length, slice_index_or, refl, sym, ap, ◌∙◌, arith}
 use Rattle.std.proofs.lemmas.Bool.{cases_Bool, cases_lt, cases_eq, eqb-true, eq-eqb, and_parts, and_from, true≢false, false≢true}
 use Rattle.std.proofs.lemmas.Option.{none-some}
@@ -81,18 +83,18 @@ goer_of gs deed rows p e gone g at dep found is same = record {
 
 -- each event is the act, or one that goes on
 goer_there : (b : Board) (ms : List Move) (i p : ℕ) (deed : Deed) (rows : StepRows) (events : List (Option Event)) (e : Event) → IsRead deed (happening_at b ms i) → AreEvents deed rows events
-    → p < 10 → slice_index_or events p None ≡ Some e → IsActEvent deed rows.act e ⊎ ((g : Going) × IsGoer (happening_at b ms i).goings g e)
+    → p < EVENT_PLACES → slice_index_or events p None ≡ Some e → IsActEvent deed rows.act e ⊎ ((g : Going) × IsGoer (happening_at b ms i).goings g e)
 goer_there b ms i p deed rows events e read are below there = elim (cases_eq p 0) [
   | inl first ↦
       absurd (none-some e (sym are.none ∙ (ap (λ (n : ℕ). slice_index_or events n None) (sym first) ∙ there)))
-  | inr later ↦ elim (cases_lt p 9) [
+  | inr later ↦ elim (cases_lt p CHANNEL_PLACES) [
     | inl low ↦
         let at : IsGoEvent deed.goes rows.goes p e = rw there at (are.go p (omega arith) low) in
         let w = going_is (happening_at b ms i).goings p (departure_of deed p) (going_of (happening_at b ms i).goings p) refl (read.goings p) at.goes_there in
         inr (w.1.0, goer_of (happening_at b ms i).goings deed rows p e w.0 w.1.0 at w.1.1.0 w.1.1.1.0 w.1.1.1.1.0 w.1.1.1.1.1)
     | inr high ↦
-        let last : p ≡ 9 = omega arith in
-        let here : slice_index_or events 9 None ≡ Some e = rw last at there in
+        let last : p ≡ CHANNEL_PLACES = omega arith in
+        let here : slice_index_or events CHANNEL_PLACES None ≡ Some e = rw last at there in
         inl (rw here at are.act)
   ]
 ]
@@ -100,27 +102,27 @@ goer_there b ms i p deed rows events e read are below there = elim (cases_eq p 0
 -- each that goes on has its event
 record HasGoer (gs : List Going) (events : List (Option Event)) (g : Going) : Type 0 where
   place : ℕ
-  within : place < 10
+  within : place < EVENT_PLACES
   event : Event
   there : slice_index_or events place None ≡ Some event
   goer : IsGoer gs g event
 
 goer_event : (b : Board) (ms : List Move) (i c : ℕ) (deed : Deed) (rows : StepRows) (events : List (Option Event)) (g : Going) → IsRead deed (happening_at b ms i) → AreEvents deed rows events
-    → goes_in deed 0 ≡ false → length deed.goes ≡ 9 → going_of (happening_at b ms i).goings c ≡ Some g → HasGoer (happening_at b ms i).goings events g
+    → goes_in deed 0 ≡ false → length deed.goes ≡ CHANNEL_PLACES → going_of (happening_at b ms i).goings c ≡ Some g → HasGoer (happening_at b ms i).goings events g
 goer_event b ms i c deed rows events g read are none size found = by_departure (departure_of deed c) refl (rw found at (read.goings c))
   where
     by_departure : (d : Option Departure) → departure_of deed c ≡ d → IsGoingOf d (Some g) → HasGoer (happening_at b ms i).goings events g
     by_departure None dep is = absurd is
     by_departure (Some gone) dep is =
         let goes : goes_in deed c ≡ true = ap is_given dep in
-        let below : c < 9 = elim (cases_lt c 9) [ inl low ↦ low | inr high ↦ absurd (true≢false (sym goes ∙ past_gone deed.goes c (omega arith))) ] in
+        let below : c < CHANNEL_PLACES = elim (cases_lt c CHANNEL_PLACES) [ inl low ↦ low | inr high ↦ absurd (true≢false (sym goes ∙ past_gone deed.goes c (omega arith))) ] in
         let above : 0 < c = elim (cases_eq c 0) [ inl zero_it ↦ absurd (true≢false (sym goes ∙ (ap (λ (n : ℕ). goes_in deed n) zero_it ∙ none))) | inr some ↦ omega arith ] in
         by_event (slice_index_or events c None) refl (are.go c above below)
       where
         by_event : (o : Option Event) → slice_index_or events c None ≡ o → IsGoAt deed.goes rows.goes c o → HasGoer (happening_at b ms i).goings events g
         by_event (Some e) there at =
             let goes : goes_in deed c ≡ true = ap is_given dep in
-            let below : c < 9 = elim (cases_lt c 9) [ inl low ↦ low | inr high ↦ absurd (true≢false (sym goes ∙ past_gone deed.goes c (omega arith))) ] in
+            let below : c < CHANNEL_PLACES = elim (cases_lt c CHANNEL_PLACES) [ inl low ↦ low | inr high ↦ absurd (true≢false (sym goes ∙ past_gone deed.goes c (omega arith))) ] in
             record { place = c; within = omega arith; event = e; there = there; goer = goer_of (happening_at b ms i).goings deed rows c e gone g at dep found is (going_within (happening_at b ms i).goings c g found).1 }
         by_event None there at = absurd (true≢false (sym (ap is_given dep) ∙ at))
 
@@ -151,7 +153,7 @@ ends_of_axes one two e = cc
 
 -- the wait of a channel and its event
 record HasWait (waits : List (Option Event)) (d : ℕ) (hold : Hold) (line : ℕ) : Type 0 where
-  below : d < 10
+  below : d < EVENT_PLACES
   held : HoldAtLine
   hold_is : hold_shown held.hold ≡ hold
   line_is : held.line ≡ line
@@ -159,7 +161,7 @@ record HasWait (waits : List (Option Event)) (d : ℕ) (hold : Hold) (line : ℕ
   there : slice_index_or waits d None ≡ Some event
   is : IsWaitEvent held d event
 
-wait_event : (b : Board) (ms : List Move) (i d line : ℕ) (hold : Hold) (holds : List (Option HoldAtLine)) (waits : List (Option Event)) → AreHolds b ms i holds → length holds ≡ 9 → AreWaits holds waits
+wait_event : (b : Board) (ms : List Move) (i d line : ℕ) (hold : Hold) (holds : List (Option HoldAtLine)) (waits : List (Option Event)) → AreHolds b ms i holds → length holds ≡ CHANNEL_PLACES → AreWaits holds waits
     → (happening_at b ms i).after d ≡ IsHolding hold line → HasWait waits d hold line
 wait_event b ms i d line hold holds waits are size waited after = by_hold (slice_index_or holds d None) refl
   where
@@ -172,14 +174,14 @@ wait_event b ms i d line hold holds waits are size waited after = by_hold (slice
         let same : Some (hold_shown held.hold, held.line) ≡ Some (hold, line) = ap wait_shown (sym there) ∙ shown in
         let one = wait_inside (hold_shown held.hold, held.line) (hold, line) same in
         let two = wait_line (hold_shown held.hold, held.line) (hold, line) same in
-        let below : d < 9 = elim (cases_lt d 9) [ inl low ↦ low | inr high ↦ absurd (none-some held (sym (get_or-eq_default holds None (omega arith)) ∙ there)) ] in
+        let below : d < CHANNEL_PLACES = elim (cases_lt d CHANNEL_PLACES) [ inl low ↦ low | inr high ↦ absurd (none-some held (sym (get_or-eq_default holds None (omega arith)) ∙ there)) ] in
         let above : 0 < d = elim (cases_eq d 0) [
           | inl zero_it ↦ absurd (none-some held (sym are.none ∙ (ap (λ (n : ℕ). slice_index_or holds n None) (sym zero_it) ∙ there)))
           | inr some ↦ omega arith
         ] in
         by_event held one two (slice_index_or waits d None) refl (rw there at (waited.wait d above below)) below
       where
-        by_event : (held : HoldAtLine) → hold_shown held.hold ≡ hold → held.line ≡ line → (o : Option Event) → slice_index_or waits d None ≡ o → IsWaitAt (Some held) d o → d < 9 → HasWait waits d hold line
+        by_event : (held : HoldAtLine) → hold_shown held.hold ≡ hold → held.line ≡ line → (o : Option Event) → slice_index_or waits d None ≡ o → IsWaitAt (Some held) d o → d < CHANNEL_PLACES → HasWait waits d hold line
         by_event held one two None there at below = absurd at
         by_event held one two (Some e) there at below = record { below = omega arith; held = held; hold_is = one; line_is = two; event = e; there = there; is = at }
 
@@ -217,20 +219,20 @@ pub record IsTold (b : Board) (ms : List Move) (i : ℕ) (deed : Deed) (rows : S
   pub known : IsKnownStep (course_of b ms) (tracks_of b ms) i deed rows
   pub are : AreEvents deed rows events
   pub held : AreHolds b ms i holds
-  pub size : length holds ≡ 9
+  pub size : length holds ≡ CHANNEL_PLACES
   pub waited : AreWaits holds waits
 
 -- c and f
 waiting_is : (b : Board) (ms : List Move) (i : ℕ) (deed : Deed) (rows : StepRows) (events waits : List (Option Event)) (holds : List (Option HoldAtLine)) (race : Race) → IsTold b ms i deed rows events waits holds
-    → IsRaceBetween Waiting events waits 10 race → IsTracedRace b ms i race
+    → IsRaceBetween Waiting events waits EVENT_PLACES race → IsTracedRace b ms i race
 waiting_is b ms i deed rows events waits holds race told r = elim (cases_eq r.place 0) [
   | inl first ↦
       absurd (none-some r.late (sym told.waited.first ∙ (ap (λ (n : ℕ). slice_index_or waits n None) (sym first) ∙ r.there)))
-  | inr later ↦ elim (cases_lt r.place 9) [
+  | inr later ↦ elim (cases_lt r.place CHANNEL_PLACES) [
     | inl low ↦ by_hold (slice_index_or holds r.place None) refl (rw r.there at (told.waited.wait r.place (omega arith) low))
     | inr high ↦
         let within = r.within in
-        let last : r.place ≡ 9 = omega arith in
+        let last : r.place ≡ CHANNEL_PLACES = omega arith in
         absurd (none-some r.late (sym told.waited.last ∙ (ap (λ (n : ℕ). slice_index_or waits n None) (sym last) ∙ r.there)))
   ]
 ]
@@ -282,10 +284,10 @@ waiting_is b ms i deed rows events waits holds race told r = elim (cases_eq r.pl
 
 -- d
 together_is : (b : Board) (ms : List Move) (i : ℕ) (deed : Deed) (rows : StepRows) (events waits : List (Option Event)) (holds : List (Option HoldAtLine)) (race : Race) → IsTold b ms i deed rows events waits holds
-    → IsRaceBetween Together events events 10 race → IsTracedRace b ms i race
+    → IsRaceBetween Together events events EVENT_PLACES race → IsTracedRace b ms i race
 together_is b ms i deed rows events waits holds race told r = by_needs r.race_of.early.needs r.late.needs refl refl r.race_of.race_of.unlike
   where
-    of_goer : (p : ℕ) (e : Event) (w : NamedMarks) → p < 10 → slice_index_or events p None ≡ Some e → e.needs ≡ Some w → (g : Going) × IsGoer (happening_at b ms i).goings g e
+    of_goer : (p : ℕ) (e : Event) (w : NamedMarks) → p < EVENT_PLACES → slice_index_or events p None ≡ Some e → e.needs ≡ Some w → (g : Going) × IsGoer (happening_at b ms i).goings g e
     of_goer p e w below there needs = elim (goer_there b ms i p deed rows events e told.read told.are below there) [
       | inl act ↦ absurd (none-some w (sym act.needs ∙ needs))
       | inr found ↦ found
@@ -331,7 +333,7 @@ earlier_is b ms i race inside r =
 
 -- each race of the step is one of them
 race_is : (b : Board) (ms : List Move) (i : ℕ) (deed : Deed) (rows : StepRows) (events waits : List (Option Event)) (holds : List (Option HoldAtLine)) (race : Race) → IsTold b ms i deed rows events waits holds
-    → IsTracedRace b ms i race → (IsRaceBetween Waiting events waits 10 race ⊎ IsRaceBetween Together events events 10 race) ⊎ IsEarlierRace (course_of b ms) (tracks_of b ms) i i race
+    → IsTracedRace b ms i race → (IsRaceBetween Waiting events waits EVENT_PLACES race ⊎ IsRaceBetween Together events events EVENT_PLACES race) ⊎ IsEarlierRace (course_of b ms) (tracks_of b ms) i i race
 race_is b ms i deed rows events waits holds race told (Apart early late trace step apart is) =
     let before = apart.step in
     inr (record {
@@ -474,7 +476,7 @@ race_is b ms i deed rows events waits holds race told (StillAsks g d x line axes
 
 -- the races of the step
 pub step_is : (b : Board) (ms : List Move) (i : ℕ) (deed : Deed) (rows : StepRows) (events waits : List (Option Event)) (holds : List (Option HoldAtLine)) → IsTold b ms i deed rows events waits holds → (race : Race)
-    → ((IsRaceBetween Waiting events waits 10 race ⊎ IsRaceBetween Together events events 10 race) ⊎ IsEarlierRace (course_of b ms) (tracks_of b ms) i i race) ↔ IsRace b ms i race
+    → ((IsRaceBetween Waiting events waits EVENT_PLACES race ⊎ IsRaceBetween Together events events EVENT_PLACES race) ⊎ IsEarlierRace (course_of b ms) (tracks_of b ms) i i race) ↔ IsRace b ms i race
 step_is b ms i deed rows events waits holds told race = (
   (λ r. elim r [
     | inl one ↦ elim one [
@@ -487,10 +489,10 @@ step_is b ms i deed rows events waits holds told race = (
 )
 
 pub step_least : (b : Board) (ms : List Move) (i : ℕ) (deed : Deed) (rows : StepRows) (events waits : List (Option Event)) (holds : List (Option HoldAtLine)) (mid new : Option Race) → IsTold b ms i deed rows events waits holds
-    → IsLeastWith (λ race. IsRaceBetween Waiting events waits 10 race ⊎ IsRaceBetween Together events events 10 race) None mid → IsLeastWith (IsEarlierRace (course_of b ms) (tracks_of b ms) i i) mid new
+    → IsLeastWith (λ race. IsRaceBetween Waiting events waits EVENT_PLACES race ⊎ IsRaceBetween Together events events EVENT_PLACES race) None mid → IsLeastWith (IsEarlierRace (course_of b ms) (tracks_of b ms) i i) mid new
     → IsLeastWith (IsRace b ms i) None new
 step_least b ms i deed rows events waits holds mid new told first second =
-    least_same (λ race. (IsRaceBetween Waiting events waits 10 race ⊎ IsRaceBetween Together events events 10 race) ⊎ IsEarlierRace (course_of b ms) (tracks_of b ms) i i race) (IsRace b ms i) None new
+    least_same (λ race. (IsRaceBetween Waiting events waits EVENT_PLACES race ⊎ IsRaceBetween Together events events EVENT_PLACES race) ⊎ IsEarlierRace (course_of b ms) (tracks_of b ms) i i race) (IsRace b ms i) None new
     (step_is b ms i deed rows events waits holds told)
-    (least_both (λ race. IsRaceBetween Waiting events waits 10 race ⊎ IsRaceBetween Together events events 10 race) (IsEarlierRace (course_of b ms) (tracks_of b ms) i i)
-    (λ race. (IsRaceBetween Waiting events waits 10 race ⊎ IsRaceBetween Together events events 10 race) ⊎ IsEarlierRace (course_of b ms) (tracks_of b ms) i i race) None mid new (λ q s. s) (λ q s. s) first second)
+    (least_both (λ race. IsRaceBetween Waiting events waits EVENT_PLACES race ⊎ IsRaceBetween Together events events EVENT_PLACES race) (IsEarlierRace (course_of b ms) (tracks_of b ms) i i)
+    (λ race. (IsRaceBetween Waiting events waits EVENT_PLACES race ⊎ IsRaceBetween Together events events EVENT_PLACES race) ⊎ IsEarlierRace (course_of b ms) (tracks_of b ms) i i race) None mid new (λ q s. s) (λ q s. s) first second)

@@ -1,4 +1,6 @@
 -- Steps. Events as the code has them, the races of two of them, and the least of races.
+use Rattle.order_clocks.specs.declared.events.TheConstants.{EVENT_PLACES}
+use Rattle.axis_sets.specs.declared.limits.TheConstants.{CHANNEL_PLACES}
 use Rattle.std.specs.Prelude.{◌≡◌, ℕ, ◌<◌, ◌⊎◌, ◌↔◌, ◌==◌, ◌&&◌, ◌||◌, Bool, true, false, List, [], Option, Some, None, MatchOption, length, slice_index_or}
 use Rattle.axis_sets.specs.Sets.{has}
 use Rattle.counter_rows.specs.Rows.{count_of}
@@ -95,7 +97,7 @@ pub record IsRaceBetween (meeting : Meeting) (earlies lates : List (Option Event
   pub within : place < count
   pub late : Event
   pub there : slice_index_or lates place None ≡ Some late
-  pub race_of : IsRaceOver meeting earlies 10 late race
+  pub race_of : IsRaceOver meeting earlies EVENT_PLACES late race
 
 -- the event is the one of this name
 pub record IsEventOf (run : Course) (tracks : Tracks) (name : EventId) (e : Event) : Type 0 where
@@ -134,9 +136,9 @@ IsActAt deed row None = ⊥
 
 -- the list has the events of the step
 pub record AreEvents (deed : Deed) (rows : StepRows) (events : List (Option Event)) : Type 0 where
-  pub go : (c : ℕ) → 0 < c → c < 9 → IsGoAt deed.goes rows.goes c (slice_index_or events c None)
+  pub go : (c : ℕ) → 0 < c → c < CHANNEL_PLACES → IsGoAt deed.goes rows.goes c (slice_index_or events c None)
   pub none : slice_index_or events 0 None ≡ None
-  pub act : IsActAt deed rows.act (slice_index_or events 9 None)
+  pub act : IsActAt deed rows.act (slice_index_or events CHANNEL_PLACES None)
 
 -- the event is the wait of a channel
 pub record IsWaitEvent (held : HoldAtLine) (c : ℕ) (e : Event) : Type 0 where
@@ -153,9 +155,9 @@ IsWaitAt None c None = Unit {0}
 
 -- the list has the waits of the channels
 pub record AreWaits (holds : List (Option HoldAtLine)) (waits : List (Option Event)) : Type 0 where
-  pub wait : (c : ℕ) → 0 < c → c < 9 → IsWaitAt (slice_index_or holds c None) c (slice_index_or waits c None)
+  pub wait : (c : ℕ) → 0 < c → c < CHANNEL_PLACES → IsWaitAt (slice_index_or holds c None) c (slice_index_or waits c None)
   pub first : slice_index_or waits 0 None ≡ None
-  pub last : slice_index_or waits 9 None ≡ None
+  pub last : slice_index_or waits CHANNEL_PLACES None ≡ None
 
 -- the deed is the step of the run, with its traces and rows; only channels from 1 to 8 go on
 pub record IsKnownStep (run : Course) (tracks : Tracks) (i : ℕ) (deed : Deed) (rows : StepRows) : Type 0 where
@@ -163,4 +165,4 @@ pub record IsKnownStep (run : Course) (tracks : Tracks) (i : ℕ) (deed : Deed) 
   pub tracked : IsTracked tracks i deed
   pub are : AreRows run i rows
   pub from_one : goes_in deed 0 ≡ false
-  pub size : length deed.goes ≡ 9
+  pub size : length deed.goes ≡ CHANNEL_PLACES

@@ -1,4 +1,5 @@
 -- Steps. Two that go on and name each other at one mark number, as the code has them.
+use Rattle.axis_sets.specs.declared.limits.TheConstants.{CHANNEL_PLACES}
 use Rattle.std.specs.Prelude.{◌≡◌, ℕ, ◌<◌, true, List, Option, slice_index}
 use Rattle.step_deeds.specs.declared.deed.Departure.{Departure}
 use Rattle.sync_types.specs.Events.{AreLinked, ArePaired, Pair}
@@ -10,4 +11,4 @@ PairsAllPartners ps goes = (a b : ℕ) → are_partners goes a b ≡ true → Ar
 
 -- channels with one number are joined
 abbrev pub AreAllLinked : List Pair → List ℕ → Type 0
-AreAllLinked ps group = (c d : ℕ) → c < 9 → d < 9 → slice_index group c ≡ slice_index group d → AreLinked ps c d
+AreAllLinked ps group = (c d : ℕ) → c < CHANNEL_PLACES → d < CHANNEL_PLACES → slice_index group c ≡ slice_index group d → AreLinked ps c d

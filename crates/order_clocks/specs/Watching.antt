@@ -1,4 +1,5 @@
 -- Steps. Marks and waits as the code keeps them from step to step, and a step as it reads it.
+use Rattle.axis_sets.specs.declared.limits.TheConstants.{AXIS_LIMIT, MARK_LIMIT}
 use Rattle.std.specs.Prelude.{◌≡◌, ℕ, ◌<◌, ◌≤◌, ◌==◌, ◌&&◌, not, Bool, true, false, List, [], map, Option, Some, None, is_some, find, slice_index, slice_index_or, length}
 use Rattle.axis_sets.specs.Positions.{position_of}
 use Rattle.axis_sets.specs.Sets.{has, members_of}
@@ -105,8 +106,8 @@ pub record IsLawful (b : Board) (c : ℕ) (step : Step) (goes : List Go) (alarms
 -- those that it took, and it took none but those for which it waited
 pub record GoesFrom (b : Board) (g : Going) : Type 0 where
   pub from : wait_in g.from ≡ wait_in (b.state g.channel)
-  pub positions : waits_for_axes g.from ≡ true → (x : ℕ) → x < 16 → is_some (position_of g.grant.at x) ≡ among g.took x
-  pub past : waits_for_axes g.from ≡ true → (x : ℕ) → 16 ≤ x → is_some (position_of g.grant.at x) ≡ false
+  pub positions : waits_for_axes g.from ≡ true → (x : ℕ) → x < AXIS_LIMIT → is_some (position_of g.grant.at x) ≡ among g.took x
+  pub past : waits_for_axes g.from ≡ true → (x : ℕ) → AXIS_LIMIT ≤ x → is_some (position_of g.grant.at x) ≡ false
   pub took : (x : ℕ) → among g.took x ≡ true → among (axes_asked g.from) x ≡ true
 
 -- who goes on goes from where the code has it wait, and took the axes of which its grant has positions
@@ -127,9 +128,9 @@ begun_at None line old = old
 
 -- marks have their numbers, and sets of axes their size
 abbrev pub HoldIsSound : code.Hold → Type 0
-HoldIsSound (Marks m named) = m < 10
+HoldIsSound (Marks m named) = m < MARK_LIMIT
 HoldIsSound (Ends named) = Unit {0}
-HoldIsSound (Axes axes) = length axes ≡ 16
+HoldIsSound (Axes axes) = length axes ≡ AXIS_LIMIT
 
 abbrev pub BeginIsSound : Option code.Hold → Type 0
 BeginIsSound (Some hold) = HoldIsSound hold

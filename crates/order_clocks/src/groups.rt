@@ -83,13 +83,25 @@ pub(crate) fn join_to(
     }
 }
 
+/// A number of its own for each channel, and one for the place of none.
+fn each_alone() -> [u8; CHANNEL_PLACES]
+    ensures own { (c : ℕ) → c < CHANNEL_PLACES → slice_index result c ≡ c }
+    ensures size { length result ≡ CHANNEL_PLACES }
+{
+    let mut group = [0; CHANNEL_PLACES];
+    for place in 0..CHANNEL_PLACES as u8 {
+        group[usize::from(place)] = place;
+    }
+    group
+}
+
 /// Numbers for channels: those that go on as one event have one.
 pub(crate) fn groups_of(goes: &[Option<Departure>; CHANNEL_PLACES]) -> [u8; CHANNEL_PLACES]
     ensures joined { (a b : ℕ) → 1 ≤ a → a < CHANNEL_PLACES → 1 ≤ b → b < CHANNEL_PLACES → are_partners goes.now a b
         ≡ true → slice_index result a ≡ slice_index result b }
     ensures linked { (ps : List Pair) → PairsAllPartners ps goes.now → AreAllLinked ps result }
 {
-    let mut group = [0, 1, 2, 3, 4, 5, 6, 7, 8];
+    let mut group = each_alone();
     for a in 1..CHANNEL_PLACES as u8 {
         join_to(&mut group, goes, a);
     }

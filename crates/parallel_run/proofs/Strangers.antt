@@ -1,4 +1,5 @@
 -- Channels that the start has not are idle for good, so they have no entries.
+use Rattle.axis_sets.specs.declared.limits.TheConstants.{CHANNEL_LIMIT}
 use Rattle.std.proofs.Common.{◌≡◌, ℕ, zero, suc, ◌==◌, Bool, true, false, cond, List, [], ◌∷◌, Option, Some, None, refl, sym, ap, ◌∙◌, eqb-true, inl, inr}
 use Rattle.std.proofs.lemmas.Bool.{cases_Bool, and_parts}
 use Rattle.axis_sets.specs.Sets.{members_of}
@@ -72,7 +73,7 @@ module _ (d : ℕ) where
       next rest (Some c) is = rest (after_taking b c) (idle_taking b c (first_passes (can_take b) channel_numbers c is) idle)
 
   idle_step : (b : Board) (c : ℕ) (step : Step) → has_channel b.start d ≡ false → (d == c) ≡ false → b.state d ≡ IsIdle → (after_step b c step).state d ≡ IsIdle
-  idle_step b c step off other idle = idle_takings 8 (after_goes (after_own_part b c step)) (idle_goes (after_own_part b c step) (idle_part b c step (alarm_of b c step.action) refl off other idle))
+  idle_step b c step off other idle = idle_takings CHANNEL_LIMIT (after_goes (after_own_part b c step)) (idle_goes (after_own_part b c step) (idle_part b c step (alarm_of b c step.action) refl off other idle))
 
   not_own : (own : Bool) (e : EntryView) (others : List EntryView) → own ≡ false → others ≡ [] → cond own (e ∷ others) others ≡ []
   not_own false e others is none = none

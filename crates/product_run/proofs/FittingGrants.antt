@@ -1,4 +1,5 @@
 -- In each run of an accepted job the grant with which a channel runs fits what is kept of the channel.
+use Rattle.axis_sets.specs.declared.limits.TheConstants.{AXIS_LIMIT, ZONE_LIMIT}
 use Rattle.std.proofs.Common.{◌≡◌, ◌∙◌, ℕ, zero, suc, ℤ, ◌+◌, ◌<◌, ◌≤◌, ◌==◌, ◌&&◌, ◌||◌, not, nat_lt, Bool, true, false, List, [], ◌∷◌, ◌++◌, fold, length, is_some, Option, Some, None, IfSome, refl, sym, ap, ap₂, subst, arith}
 use Rattle.std.proofs.lemmas.Bool.{le-leb, lt-ltb}
 use Rattle.std.specs.List.{list_all, range_with_len}
@@ -94,12 +95,12 @@ owned_in job c (first ∷ rest) (Some kept) x is =
 
 module _ (job : JobView) (sound : IsSoundJob job) (b : Board) (at : b.start ≡ start_of job) (k : IsKept (length job.programs) b) (c : ℕ) (made : List Grant) (grant : Grant)
     (own : IsOwnGrant (length job.programs) made b.start (owns b c) grant) (good : IsGoodGrant grant) (kept : Option StateView) (is_kept : IsKeptOf job c made kept) where
-  axis_there : (x : ℕ) → x < 16 → has grant.axes x ≡ true → x < length job.axes
+  axis_there : (x : ℕ) → x < AXIS_LIMIT → has grant.axes x ≡ true → x < length job.axes
   axis_there x within on =
       axis_within job sound x
       (ap (λ (s : StartView). start.has_axis s x) (sym at) ∙ k.there x c (owner_is (owner_of (b.axis x)) c (sym (own.axes x within) ∙ on)))
 
-  named_there : (x : ℕ) → x < 16 → names_axis grant x ≡ true → nat_lt x (length job.axes) ≡ true
+  named_there : (x : ℕ) → x < AXIS_LIMIT → names_axis grant x ≡ true → nat_lt x (length job.axes) ≡ true
   named_there x within named = lt-ltb x (length job.axes) (axis_there x within
       (either (has grant.axes x) (is_some (position_of grant.at x)) (has grant.axes x) named (λ on. on) (λ some. own.at x within some)))
 
@@ -107,11 +108,11 @@ module _ (job : JobView) (sound : IsSoundJob job) (b : Board) (at : b.start ≡ 
   in_range None given = refl
   in_range (Some position) given = le-leb _ _ given
 
-  placed : (x : ℕ) → x < 16 → is_placed kept grant x ≡ true
+  placed : (x : ℕ) → x < AXIS_LIMIT → is_placed kept grant x ≡ true
   placed x within = implied (has grant.axes x) (is_some (position_of grant.at x) || is_owned_in kept x)
       (λ on. ap (λ (was : Bool). is_some (position_of grant.at x) || was) (owned_in job c made kept x is_kept) ∙ own.placed x within on)
 
-  axis_fit : (x : ℕ) → x < 16 → is_axis_fit job kept grant x ≡ true
+  axis_fit : (x : ℕ) → x < AXIS_LIMIT → is_axis_fit job kept grant x ≡ true
   axis_fit x within = both _ _ (implied (names_axis grant x) (nat_lt x (length job.axes)) (named_there x within))
       (both _ _ (in_range (position_of grant.at x) (good.at x)) (placed x within))
 
@@ -148,9 +149,9 @@ module _ (job : JobView) (sound : IsSoundJob job) (b : Board) (at : b.start ≡ 
 
   pub fits : grant_fits job kept grant ≡ true
   unfolding grant_fits
-  fits = both _ _ (all_in_range (is_axis_fit job kept grant) 0 16 (λ x low high. axis_fit x high))
+  fits = both _ _ (all_in_range (is_axis_fit job kept grant) 0 AXIS_LIMIT (λ x low high. axis_fit x high))
       (both _ _ (each_by_key (λ (l : ZoneLine). l.zone) (λ zone. has_all_of grant.axes zone || has_none_of grant.axes zone) job.zones sound.zone_numbers zone_whole)
-      (both _ _ (all_in_range (is_zone_fit job grant) 1 32 (λ z low high. implied (has grant.on z) (is_zone_of job grant.axes z) (zone_on z)))
+      (both _ _ (all_in_range (is_zone_fit job grant) 1 ZONE_LIMIT (λ z low high. implied (has grant.on z) (is_zone_of job grant.axes z) (zone_on z)))
       (program_there made kept is_kept own.program)))
 
 -- ---- in each run

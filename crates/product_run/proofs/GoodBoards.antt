@@ -1,4 +1,5 @@
 -- What each step keeps of a board: free axes stand in range, so do the axes of all grants, and channels are stopped by alarms of the table.
+use Rattle.axis_sets.specs.declared.limits.TheConstants.{AXIS_LIMIT, CHANNEL_LIMIT}
 use Rattle.std.proofs.Common.{◌≡◌, ℕ, zero, suc, ℤ, pos, ◌==◌, Bool, true, false, cond, List, [], ◌∷◌, length, map, Option, None, Some, IfSome, refl, arith}
 use Rattle.std.proofs.lemmas.List.{length-map}
 use Rattle.axis_sets.specs.Positions.{position_of}
@@ -24,7 +25,7 @@ AreInRange at = (axis : ℕ) → IfSome (position_of at axis) IsPosition
 
 pub record IsGoodGrant (grant : Grant) : Type 0 where
   pub at : AreInRange grant.at
-  pub axes : length grant.axes ≡ 16
+  pub axes : length grant.axes ≡ AXIS_LIMIT
 
 abbrev pub IsGoodState : State → Type 0
 IsGoodState (IsRunning grant) = IsGoodGrant grant
@@ -180,7 +181,7 @@ good_takings (suc n) b good = next (good_takings n) (next_taker b)
 
 pub good_step : (b : Board) (c : ℕ) (step : Step) → IsGoodStep step → IsGood b → IsGood (after_step b c step)
 good_step b c step is good =
-    good_takings 8 (after_goes (after_own_part b c step))
+    good_takings CHANNEL_LIMIT (after_goes (after_own_part b c step))
     (good_goes (after_own_part b c step) (good_part b c step (alarm_of b c step.action) (alarm_listed b c step.action is.listed) is.at good))
 
 -- ---- the board before the first step

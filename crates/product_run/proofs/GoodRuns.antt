@@ -79,19 +79,19 @@ segment_step s c finds = record {
   listed = end_listed s c;
 }
 
-pub has_within : (axes : List Bool) (x : ℕ) → length axes ≡ 16 → has axes x ≡ true → x < 16
-has_within axes x long on = by_place (le_or_lt 16 x)
+pub has_within : (axes : List Bool) (x : ℕ) → length axes ≡ AXIS_LIMIT → has axes x ≡ true → x < AXIS_LIMIT
+has_within axes x long on = by_place (le_or_lt AXIS_LIMIT x)
   where
-    by_place : (16 ≤ x) ⊎ (x < 16) → x < 16
+    by_place : (AXIS_LIMIT ≤ x) ⊎ (x < AXIS_LIMIT) → x < AXIS_LIMIT
     by_place (inl beyond) = no_truth (has axes x) on (has-past axes x (subst (λ (n : ℕ). n ≤ x) (sym long) beyond))
     by_place (inr within) = within
 
 segment_moves : (s : SurroundingsView) (c : Channel) → FindsGood s c → All MovesSoundly (segment_of s c).items
 segment_moves s c finds k d within = record { sound = items_sound s c finds.stand k d within; within = axes k d within }
   where
-    axes : All (λ (item : Item). All (λ e. e.0 < 16) (axes_of (movement_of item))) (segment_of s c).items
-    axes = by_places (λ (item : Item). All (λ e. e.0 < 16) (axes_of (movement_of item))) (segment_of s c).items (λ place item is.
-        All-weaker (λ e. has (grant_after s c.past).axes e.0 ≡ true) (λ e. e.0 < 16) (λ e on. has_within (grant_after s c.past).axes e.0 finds.grant.axes on)
+    axes : All (λ (item : Item). All (λ e. e.0 < AXIS_LIMIT) (axes_of (movement_of item))) (segment_of s c).items
+    axes = by_places (λ (item : Item). All (λ e. e.0 < AXIS_LIMIT) (axes_of (movement_of item))) (segment_of s c).items (λ place item is.
+        All-weaker (λ e. has (grant_after s c.past).axes e.0 ≡ true) (λ e. e.0 < AXIS_LIMIT) (λ e on. has_within (grant_after s c.past).axes e.0 finds.grant.axes on)
         (axes_of (movement_of item)) ((all_follow s c).follows place item is).owned)
 
 script_step : (job : JobView) (c : ℕ) (grants : List Grant) → All IsGoodGrant grants → IsGoodStep (script_of job c grants)

@@ -1,4 +1,5 @@
 -- What the start of an accepted job says of its axes, zones and programs.
+use Rattle.axis_sets.specs.declared.limits.TheConstants.{AXIS_LIMIT}
 use Rattle.std.proofs.Common.{◌≡◌, ◌≢◌, ◌∙◌, ◌⊎◌, inl, inr, ℕ, suc, ℤ, ◌<◌, ◌≤◌, ◌==◌, ◌&&◌, ◌||◌, not, Bool, true, false, cond, List, [], ◌∷◌, find, length, is_some, slice_get, Option, Some, None, zero-add, refl, sym, ap, subst, arith, eqb-true, eq-eqb}
 use Rattle.std.proofs.lemmas.Bool.{and_parts}
 use Rattle.std.proofs.lemmas.List.{length-map}
@@ -133,22 +134,22 @@ unfolding start_of
 holder_of_line job sound z zone at =
     ap (λ (o : Option (ℕ × List Bool × Option ℕ × Bool)). option_map_or (λ line. line.2) o None) (zone_found job sound z ∙ ap (option_map first_zone) at)
 
-carriers_are : (zone : ZoneLine) (x : ℕ) → x < 16 → has (carriers zone) x ≡ has_axis zone x
+carriers_are : (zone : ZoneLine) (x : ℕ) → x < AXIS_LIMIT → has (carriers zone) x ≡ has_axis zone x
 unfolding carriers
-carriers_are zone x within = get_or-map-range_with_len (has_axis zone) 0 16 x x false within (zero-add x)
+carriers_are zone x within = get_or-map-range_with_len (has_axis zone) 0 AXIS_LIMIT x x false within (zero-add x)
 
 -- an axis of the zone
 pub carrier_of : (job : JobView) → IsSoundJob job → (z : ℕ) (zone : ZoneLine) → line_of_zone job z ≡ Some zone → (x : ℕ) → has_axis zone x ≡ true
-    → (x < 16) × (has (start.axes_of_zone (start_of job) z) x ≡ true)
+    → (x < AXIS_LIMIT) × (has (start.axes_of_zone (start_of job) z) x ≡ true)
 carrier_of job sound z zone at x on =
-    let few : length job.axes ≤ 16 = sound.few_axes in
+    let few : length job.axes ≤ AXIS_LIMIT = sound.few_axes in
     let there : x < length job.axes = (carrier_there job zone (All-found (IsSoundZone job) (λ (l : ZoneLine). l.zone == z) job.zones zone sound.zones at) x on).0 in
-    let within : x < 16 = omega (arith, few, there) in
+    let within : x < AXIS_LIMIT = omega (arith, few, there) in
     (within, ap (λ (axes : List Bool). has axes x) (axes_of_line job sound z zone at) ∙ carriers_are zone x within ∙ on)
 
-none_past : (zone : ZoneLine) (x : ℕ) → 16 ≤ x → has (carriers zone) x ≡ false
+none_past : (zone : ZoneLine) (x : ℕ) → AXIS_LIMIT ≤ x → has (carriers zone) x ≡ false
 unfolding carriers
-none_past zone x past = has-past (carriers zone) x (subst (λ (n : ℕ). n ≤ x) (sym (length-map-range_with_len (has_axis zone) 0 16)) past)
+none_past zone x past = has-past (carriers zone) x (subst (λ (n : ℕ). n ≤ x) (sym (length-map-range_with_len (has_axis zone) 0 AXIS_LIMIT)) past)
 
 -- ---- the axes of a zone in a set
 
@@ -232,9 +233,9 @@ not_carried zone still x = by_sides zone.sides still
 -- a zone that no axis carries
 pub no_carrier : (job : JobView) → IsSoundJob job → (z : ℕ) (zone : ZoneLine) → line_of_zone job z ≡ Some zone → is_carried zone ≡ false
     → (x : ℕ) → has (start.axes_of_zone (start_of job) z) x ≡ false
-no_carrier job sound z zone at still x = ap (λ (axes : List Bool). has axes x) (axes_of_line job sound z zone at) ∙ by_place (le_or_lt 16 x)
+no_carrier job sound z zone at still x = ap (λ (axes : List Bool). has axes x) (axes_of_line job sound z zone at) ∙ by_place (le_or_lt AXIS_LIMIT x)
   where
-    by_place : (16 ≤ x) ⊎ (x < 16) → has (carriers zone) x ≡ false
+    by_place : (AXIS_LIMIT ≤ x) ⊎ (x < AXIS_LIMIT) → has (carriers zone) x ≡ false
     by_place (inl past) = none_past zone x past
     by_place (inr within) = carriers_are zone x within ∙ not_carried zone still x
 

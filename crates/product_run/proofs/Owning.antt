@@ -1,4 +1,5 @@
 -- What channels are granted: a channel that runs owns the axes of its grant, and each is placed by it or was in the grant before.
+use Rattle.axis_sets.specs.declared.limits.TheConstants.{AXIS_LIMIT, CHANNEL_LIMIT, ZONE_LIMIT}
 use Rattle.std.proofs.Common.{◌≡◌, ◌∙◌, ◌⊎◌, ℕ, zero, suc, ℤ, ◌+◌, ◌<◌, ◌≤◌, ◌==◌, ◌&&◌, ◌||◌, Bool, true, false, cond, List, [], ◌∷◌, ◌++◌, map, fold, is_some, Option, Some, None, IfSome, inl, inr, zero-add, refl, sym, ap, subst, arith, eqb-true, eq-eqb}
 use Rattle.std.proofs.lemmas.Bool.{and_parts, ne_eqb}
 use Rattle.std.proofs.lemmas.List.{get_or_past}
@@ -29,16 +30,16 @@ was_owned had x = fold (λ _ g. has g.axes x) false had
 
 -- a grant after these
 pub record IsOwnGrant (count : ℕ) (had : List Grant) (start : StartView) (owned : ℕ → Bool) (grant : Grant) : Type 0 where
-  pub axes : (x : ℕ) → x < 16 → has grant.axes x ≡ owned x
-  pub placed : (x : ℕ) → x < 16 → has grant.axes x ≡ true → (is_some (position_of grant.at x) || was_owned had x) ≡ true
-  pub at : (x : ℕ) → x < 16 → is_some (position_of grant.at x) ≡ true → has grant.axes x ≡ true
-  pub on : (z : ℕ) → has grant.on z ≡ true → (is_zone start z ≡ true) × ((x : ℕ) → x < 16 → has (axes_of_zone start z) x ≡ true → has grant.axes x ≡ true)
+  pub axes : (x : ℕ) → x < AXIS_LIMIT → has grant.axes x ≡ owned x
+  pub placed : (x : ℕ) → x < AXIS_LIMIT → has grant.axes x ≡ true → (is_some (position_of grant.at x) || was_owned had x) ≡ true
+  pub at : (x : ℕ) → x < AXIS_LIMIT → is_some (position_of grant.at x) ≡ true → has grant.axes x ≡ true
+  pub on : (z : ℕ) → has grant.on z ≡ true → (is_zone start z ≡ true) × ((x : ℕ) → x < AXIS_LIMIT → has (axes_of_zone start z) x ≡ true → has grant.axes x ≡ true)
   pub program : had ≡ [] → (p : ℕ) × (grant.program ≡ Some p) × (p < count)
 
 -- who waits has had a grant, and owns no axis that the last had not
 pub record IsOwnWait (had : List Grant) (owned : ℕ → Bool) : Type 0 where
   pub begun : had ≡ [] → ⊥
-  pub had_each : (x : ℕ) → x < 16 → owned x ≡ true → was_owned had x ≡ true
+  pub had_each : (x : ℕ) → x < AXIS_LIMIT → owned x ≡ true → was_owned had x ≡ true
 
 abbrev pub IsOwnState : ℕ → List Grant → StartView → (ℕ → Bool) → State → Type 0
 IsOwnState count had start owned (IsRunning grant) = IsOwnGrant count had start owned grant
@@ -77,40 +78,40 @@ free_unowned (FreeAt position) d free = refl
 
 -- ---- grants
 
-granted_axes : (b : Board) (d : ℕ) (at : List (Option ℤ)) (x : ℕ) → x < 16 → has (grant_with b d at).axes x ≡ owns b d x
+granted_axes : (b : Board) (d : ℕ) (at : List (Option ℤ)) (x : ℕ) → x < AXIS_LIMIT → has (grant_with b d at).axes x ≡ owns b d x
 unfolding grant_with
-granted_axes b d at x within = get_or-map-range_with_len (owns b d) 0 16 x x false within (zero-add x)
+granted_axes b d at x within = get_or-map-range_with_len (owns b d) 0 AXIS_LIMIT x x false within (zero-add x)
 
 granted_on : (b : Board) (d : ℕ) (at : List (Option ℤ)) (z : ℕ) → has (grant_with b d at).on z ≡ true → is_this (b.holder z) d ≡ true
 unfolding grant_with
 granted_on b d at zero on = no_truth false on refl
-granted_on b d at (suc n) on = by_place (le_or_lt 32 n)
+granted_on b d at (suc n) on = by_place (le_or_lt ZONE_LIMIT n)
   where
     flag : ℕ → Bool
     flag z = is_this (b.holder z) d && b.is_on z
 
-    by_place : (32 ≤ n) ⊎ (n < 32) → is_this (b.holder (suc n)) d ≡ true
+    by_place : (ZONE_LIMIT ≤ n) ⊎ (n < ZONE_LIMIT) → is_this (b.holder (suc n)) d ≡ true
     by_place (inl past) =
-        let long = length-map-range_with_len flag 1 32 in
+        let long = length-map-range_with_len flag 1 ZONE_LIMIT in
         no_truth (has (map flag zone_numbers) n) on (get_or_past (map flag zone_numbers) n false (omega (arith, long, past)))
     by_place (inr within) =
         let next : 1 + n ≡ suc n = omega arith in
-        (and_parts (is_this (b.holder (suc n)) d) (b.is_on (suc n)) (sym (get_or-map-range_with_len flag 1 32 n (suc n) false within next) ∙ on)).0
+        (and_parts (is_this (b.holder (suc n)) d) (b.is_on (suc n)) (sym (get_or-map-range_with_len flag 1 ZONE_LIMIT n (suc n) false within next) ∙ on)).0
 
-no_position : (x : ℕ) → x < 16 → position_of no_positions x ≡ None
-no_position x within = get_or-map-range_with_len (λ (x : ℕ). let o : Option ℤ = None in o) 0 16 x x None within (zero-add x)
+no_position : (x : ℕ) → x < AXIS_LIMIT → position_of no_positions x ≡ None
+no_position x within = get_or-map-range_with_len (λ (x : ℕ). let o : Option ℤ = None in o) 0 AXIS_LIMIT x x None within (zero-add x)
 
-some_position : (test : ℕ → Bool) (place : ℕ → ℤ) (x : ℕ) → x < 16 → is_some (position_of (positions_where test place) x) ≡ test x
+some_position : (test : ℕ → Bool) (place : ℕ → ℤ) (x : ℕ) → x < AXIS_LIMIT → is_some (position_of (positions_where test place) x) ≡ test x
 some_position test place x within =
-    ap is_some (get_or-map-range_with_len (λ x. cond (test x) (Some (place x)) None) 0 16 x x None within (zero-add x)) ∙ told (test x) (place x)
+    ap is_some (get_or-map-range_with_len (λ x. cond (test x) (Some (place x)) None) 0 AXIS_LIMIT x x None within (zero-add x)) ∙ told (test x) (place x)
   where
     told : (b : Bool) (position : ℤ) → is_some (cond b (Some position) None) ≡ b
     told true position = refl
     told false position = refl
 
 module _ (count : ℕ) (b : Board) (k : IsKept count b) (d : ℕ) (had : List Grant) where
-  given : (at : List (Option ℤ)) → ((x : ℕ) → x < 16 → owns b d x ≡ true → (is_some (position_of at x) || was_owned had x) ≡ true)
-      → ((x : ℕ) → x < 16 → is_some (position_of at x) ≡ true → owns b d x ≡ true) → (had ≡ [] → (p : ℕ) × (b.program d ≡ Some p) × (p < count))
+  given : (at : List (Option ℤ)) → ((x : ℕ) → x < AXIS_LIMIT → owns b d x ≡ true → (is_some (position_of at x) || was_owned had x) ≡ true)
+      → ((x : ℕ) → x < AXIS_LIMIT → is_some (position_of at x) ≡ true → owns b d x ≡ true) → (had ≡ [] → (p : ℕ) × (b.program d ≡ Some p) × (p < count))
       → IsOwnGrant count had b.start (owns b d) (grant_with b d at)
   unfolding grant_with
   given at placed owned program = record {
@@ -250,7 +251,7 @@ taker count b c had k wait =
     at : List (Option ℤ)
     at = positions_where (among (axes_to_take b c)) place
 
-    by_taken : (x : ℕ) → x < 16 → (taken : Bool) → among (axes_to_take b c) x ≡ taken → is_this (owner_of (cond taken (OwnedBy c) (b.axis x))) c ≡ true
+    by_taken : (x : ℕ) → x < AXIS_LIMIT → (taken : Bool) → among (axes_to_take b c) x ≡ taken → is_this (owner_of (cond taken (OwnedBy c) (b.axis x))) c ≡ true
         → (is_some (position_of at x) || was_owned had x) ≡ true
     by_taken x within true is own = or_first (is_some (position_of at x)) (was_owned had x) (some_position (among (axes_to_take b c)) place x within ∙ is)
     by_taken x within false is own = or_second (is_some (position_of at x)) (was_owned had x) (wait.had_each x within own)
@@ -287,7 +288,7 @@ pub owned_step : (count : ℕ) (had : ℕ → List Grant) (b : Board) (c : ℕ) 
 owned_step count had b c step known wait o =
     let part : IsKept count (after_own_part b c step) = kept_part count b c step (alarm_of b c step.action) refl known o.kept in
     let own : AreOwn count had (after_own_part b c step) = own_part count had b c step (alarm_of b c step.action) refl part wait o.own in
-    owned_takings count had 8 (after_goes (after_own_part b c step))
+    owned_takings count had CHANNEL_LIMIT (after_goes (after_own_part b c step))
     (record { kept = kept_goes count (after_own_part b c step) part; own = own_goes count had (after_own_part b c step) part own })
 
 -- before the first step

@@ -1,4 +1,5 @@
 -- In each run of an accepted job a segment switches zones that its channel holds.
+use Rattle.axis_sets.specs.declared.limits.TheConstants.{AXIS_LIMIT}
 use Rattle.std.proofs.Common.{◌≡◌, ◌∙◌, ℕ, zero, suc, ◌<◌, Bool, true, false, cond, List, [], ◌∷◌, ◌++◌, length, slice_get, Option, Some, None, refl, sym, ap, subst, eqb-true, eq-eqb}
 use Rattle.axis_sets.specs.Sets.{has}
 use Rattle.channel_machine.specs.Coordination.{has_all_of, holds_zone, is_carried, is_held}
@@ -46,7 +47,7 @@ held_line job sound c axes z holds = found_once (λ (l : ZoneLine). l.zone) (is_
 
 -- on a board where the channel owns these axes
 module _ (job : JobView) (sound : IsSoundJob job) (count : ℕ) (b : Board) (at : b.start ≡ start_of job) (k : IsKept count b) (c : ℕ) (axes : List Bool)
-    (own : (x : ℕ) → x < 16 → has axes x ≡ owns b c x) where
+    (own : (x : ℕ) → x < AXIS_LIMIT → has axes x ≡ owns b c x) where
   from_start : (z x : ℕ) → has (axes_of_zone (start_of job) z) x ≡ true → has (axes_of_zone b.start z) x ≡ true
   from_start z x on = ap (λ (s : StartView). has (axes_of_zone s z) x) at ∙ on
 

@@ -1,4 +1,5 @@
 -- The events that the code notes are those of the run.
+use Rattle.axis_sets.specs.declared.limits.TheConstants.{CHANNEL_LIMIT, CHANNEL_PLACES}
 use Rattle.std.proofs.Common.{◌≡◌, ℕ, zero, suc, ◌+◌, ◌<◌, ◌≤◌, ◌==◌, ◌&&◌, ◌||◌, Bool, true, false, inl, inr, List, [], ◌∷◌, ◌++◌, length, map, filter, All, drop, Option, Some, None, refl, sym, ap, ◌∙◌, arith, if◌then◌else◌}
 use Rattle.std.specs.Prelude.{is_some, unwrap_or}
 use Rattle.std.specs.List.{range_with_len}
@@ -56,17 +57,17 @@ none_in_range p (suc n) a none =
     let off : p a ≡ false = none a (omega arith) (omega arith) in
     rw off (none_in_range p n (a + 1) (λ d up low. none d (omega arith) (omega arith)))
 
-first_of_all : (p : ℕ → Bool) (k : ℕ) → 1 ≤ k → k < 9 → ((d : ℕ) → 1 ≤ d → d < k → p d ≡ false) → p k ≡ true → first_of (filter p channel_numbers) ≡ Some k
-first_of_all p k from below none on = first_in_range p 8 1 k from below none on
+first_of_all : (p : ℕ → Bool) (k : ℕ) → 1 ≤ k → k < CHANNEL_PLACES → ((d : ℕ) → 1 ≤ d → d < k → p d ≡ false) → p k ≡ true → first_of (filter p channel_numbers) ≡ Some k
+first_of_all p k from below none on = first_in_range p CHANNEL_LIMIT 1 k from below none on
 
-none_of_all : (p : ℕ → Bool) → ((d : ℕ) → 1 ≤ d → d < 9 → p d ≡ false) → first_of (filter p channel_numbers) ≡ None
-none_of_all p none = none_in_range p 8 1 none
+none_of_all : (p : ℕ → Bool) → ((d : ℕ) → 1 ≤ d → d < CHANNEL_PLACES → p d ≡ false) → first_of (filter p channel_numbers) ≡ None
+none_of_all p none = none_in_range p CHANNEL_LIMIT 1 none
 
-pub lowest_is : (deed : Deed) (c k : ℕ) → 1 ≤ k → k < 9 → ((d : ℕ) → 1 ≤ d → d < k → is_with deed c d ≡ false) → is_with deed c k ≡ true → lowest_of deed c ≡ k
+pub lowest_is : (deed : Deed) (c k : ℕ) → 1 ≤ k → k < CHANNEL_PLACES → ((d : ℕ) → 1 ≤ d → d < k → is_with deed c d ≡ false) → is_with deed c k ≡ true → lowest_of deed c ≡ k
 unfolding lowest_of
 lowest_is deed c k from below none on = ap (λ (o : Option ℕ). unwrap_or o c) (first_of_all (is_with deed c) k from below none on)
 
-pub lowest_none : (deed : Deed) (c : ℕ) → ((d : ℕ) → 1 ≤ d → d < 9 → is_with deed c d ≡ false) → lowest_of deed c ≡ c
+pub lowest_none : (deed : Deed) (c : ℕ) → ((d : ℕ) → 1 ≤ d → d < CHANNEL_PLACES → is_with deed c d ≡ false) → lowest_of deed c ≡ c
 unfolding lowest_of
 lowest_none deed c none = ap (λ (o : Option ℕ). unwrap_or o c) (none_of_all (is_with deed c) none)
 
@@ -123,7 +124,7 @@ kept_in_step : (b : Board) (c : ℕ) (step : Step) → hold_in ((after_own_part 
 kept_in_step b c step none =
     let own : Board = after_own_part b c step in
     let kept : (after_goes own).state c ≡ own.state c = kept_by_goes own c none in
-    kept_by_takings 8 (after_goes own) c (rw kept none) ∙ kept
+    kept_by_takings CHANNEL_LIMIT (after_goes own) c (rw kept none) ∙ kept
 
 -- what the acting channel does after its own part
 abbrev ended_or_on : Bool → StretchKind

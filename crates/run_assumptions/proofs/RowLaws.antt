@@ -1,4 +1,5 @@
 -- What is taken for granted of settable offsets and of parameters, by the first remarks.
+use Rattle.axis_sets.specs.declared.limits.TheConstants.{AXIS_LIMIT}
 use Rattle.std.proofs.Common.{◌≡◌, ◌∙◌, ℕ, ◌++◌, List, slice_index_or, append_assoc, Option, None, sym, ap, subst, arith}
 use Rattle.std.specs.List.{flat_map, range_with_len}
 use Rattle.job_types.specs.Job.{JobView}
@@ -29,7 +30,7 @@ all_zeros c remarks n old new all is =
     is ∙ ap (λ (k : ℕ). old ++ flat_map (λ number. zero_rows c number (first_with parameter_of number remarks)) (range_with_len 0 k)) all
 
 -- of all axes
-pub all_positions : (c : ℕ) (firsts : List (Option Mover)) (n : ℕ) (old new : List Assumed) → n ≡ 16
+pub all_positions : (c : ℕ) (firsts : List (Option Mover)) (n : ℕ) (old new : List Assumed) → n ≡ AXIS_LIMIT
     → new ≡ old ++ flat_map (λ axis. standing_rows c axis (slice_index_or firsts axis None)) (range_with_len 0 n) → new ≡ old ++ position_rows firsts c
 unfolding position_rows
 all_positions c firsts n old new all is = is ∙ ap (λ (k : ℕ). old ++ flat_map (λ axis. standing_rows c axis (slice_index_or firsts axis None)) (range_with_len 0 k)) all

@@ -3,7 +3,7 @@ use Rattle.std.proofs.Common.{◌≡◌, ◌∙◌, ℕ, zero, suc, ◌+◌, ◌
 use Rattle.std.specs.List.{list_all, range_with_len}
 use Rattle.std.proofs.lemmas.Bool.{cases_Bool, and_parts, false_from_ne_true}
 use Rattle.axis_sets.specs.Sets.{members_of}
-use Rattle.axis_sets.specs.declared.limits.TheConstants.{CHANNEL_PLACES}
+use Rattle.axis_sets.specs.declared.limits.TheConstants.{CHANNEL_LIMIT, CHANNEL_PLACES}
 use Rattle.run_ends.specs.Missing.{Lacks, LacksMark, LacksEnd, LacksAxis, WhoWaitsLacks}
 use Rattle.sync_types.proofs.BoardTests.{among_kept, by_test, no_truth, not_so}
 use Rattle.sync_types.proofs.Settling.{settled}
@@ -130,7 +130,7 @@ step_settled b c step old =
     record {
       goes = λ d on. kept_off (λ e. goes_at_once (after_step b c step) ((after_step b c step).state e)) channel_numbers d on (ap (λ (xs : List ℕ). among xs d) rest.no_goer);
       takes = λ d on. kept_off (can_take (after_step b c step)) channel_numbers d on (ap (λ (xs : List ℕ). among xs d) (empty_from (filter (can_take (after_step b c step)) channel_numbers) rest.no_taker));
-      others = takings_others 8 (after_goes (after_own_part b c step)) (goes_others (after_own_part b c step) (part_others b c step (alarm_of b c step.action) old.others));
+      others = takings_others CHANNEL_LIMIT (after_goes (after_own_part b c step)) (goes_others (after_own_part b c step) (part_others b c step (alarm_of b c step.action) old.others));
     }
 
 all_settled : (es : List EntryView) (b : Board) → IsSettled b → IsSettled (after_entries b es)
@@ -166,5 +166,5 @@ pub who_waits_lacks : (start : StartView) (run : RunView) (c : ℕ) (hold : Hold
 who_waits_lacks start run c hold line whole from below is =
     let b : Board = after_entries (first_board start) run.entries in
     let s : IsSettled (after_entries (first_board start) run.entries) = all_settled run.entries (first_board start) (first_settled start) in
-    let on : among channel_numbers c ≡ true = numbers_in 8 1 c from below in
+    let on : among channel_numbers c ≡ true = numbers_in CHANNEL_LIMIT 1 c from below in
     lacks_in b c hold line (rw is at (s.goes c on)) (rw is at (s.others c)) (s.takes c on) is

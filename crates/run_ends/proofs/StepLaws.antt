@@ -155,7 +155,7 @@ module _ (old new : LastBoard) (deed : Deed) (s : IsStepOf old new deed) (b : Bo
       let there = going_within (goings_in_step b c step) m w.0 w.1 in
       (taken_in_step b c step w.0 x there.0 w.2).0 ∙ ap Some there.1
 
-  nobody_takes : (x : ℕ) → ((m : ℕ) → 1 ≤ m → m ≤ 8 → took_by (slice_index_or deed.goes m None) x ≡ false) → (g : Going) → IsIn g (goings_in_step b c step) → among g.took x ≡ true → ⊥
+  nobody_takes : (x : ℕ) → ((m : ℕ) → 1 ≤ m → m ≤ CHANNEL_LIMIT → took_by (slice_index_or deed.goes m None) x ≡ false) → (g : Going) → IsIn g (goings_in_step b c step) → among g.took x ≡ true → ⊥
   nobody_takes x none g inside on =
       let within = channel_within g.channel (taken_in_step b c step g x inside on).1 in
       let one = only_one b c step g running inside in
@@ -163,7 +163,7 @@ module _ (old new : LastBoard) (deed : Deed) (s : IsStepOf old new deed) (b : Bo
       no_truth (took_by (slice_index_or deed.goes g.channel None) x) (takes_is (slice_index_or deed.goes g.channel None) one.other x there (one.took x on)) (none g.channel within.0 (omega (arith, within.1)))
 
   new_owners : (x : ℕ) → x < AXIS_LIMIT → slice_index_or new.owners x None ≡ owner_of ((after_step b c step).axis x)
-  new_owners x below = s.axes x below ∙ elim (upto_is deed.goes x (slice_index_or s.mid.owners x None) (owner_of ((after_step b c step).axis x)) (taker_owns x) 8) [
+  new_owners x below = s.axes x below ∙ elim (upto_is deed.goes x (slice_index_or s.mid.owners x None) (owner_of ((after_step b c step).axis x)) (taker_owns x) CHANNEL_LIMIT) [
     | inl same ↦ same
     | inr kept ↦ kept.0 ∙ (mid_owners x below ∙ sym (kept_in_step b c step x (nobody_takes x kept.1)))
   ]

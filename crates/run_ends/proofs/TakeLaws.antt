@@ -1,4 +1,5 @@
 -- Who owns an axis after a step.
+use Rattle.axis_sets.specs.declared.limits.TheConstants.{CHANNEL_LIMIT, CHANNEL_PLACES}
 use Rattle.std.proofs.Common.{◌≡◌, ◌∙◌, ◌⊎◌, ℕ, zero, suc, ◌+◌, ◌<◌, ◌≤◌, ◌==◌, ◌||◌, Bool, true, false, inl, inr, List, [], ◌∷◌, ◌++◌, map, filter, Option, None, Some, if◌then◌else◌, refl, sym, ap, subst, arith}
 use Rattle.std.specs.List.{range_with_len}
 use Rattle.std.proofs.lemmas.Bool.{and_parts, cases_Bool, eqb-true, eq-eqb, or_cases}
@@ -134,14 +135,14 @@ pub taken_in_step : (b : Board) (c : ℕ) (step : Step) (g : Going) (x : ℕ) �
 taken_in_step b c step g x inside on =
     let own = after_own_part b c step in
     let takes = among_takers (after_own_part b c step) (channels_started (alarm_of b c step.action) step.action) g x inside on in
-    let all = all_take 8 (after_goes (after_own_part b c step)) in
+    let all = all_take CHANNEL_LIMIT (after_goes (after_own_part b c step)) in
     (all.taken g x takes on, all.listed g takes)
 
 -- what nobody takes is after the step as after the channel's own part
 pub kept_in_step : (b : Board) (c : ℕ) (step : Step) (x : ℕ) → ((g : Going) → IsIn g (goings_in_step b c step) → among g.took x ≡ true → ⊥)
     → owner_of ((after_step b c step).axis x) ≡ owner_of ((after_own_part b c step).axis x)
 kept_in_step b c step x none =
-    (all_take 8 (after_goes (after_own_part b c step))).kept x (λ g takes on. none g (among_goings (after_own_part b c step) (channels_started (alarm_of b c step.action) step.action) g takes) on)
+    (all_take CHANNEL_LIMIT (after_goes (after_own_part b c step))).kept x (λ g takes on. none g (among_goings (after_own_part b c step) (channels_started (alarm_of b c step.action) step.action) g takes) on)
 
 -- what a channel lets go is free after its own part
 pub freed_in_step : (b : Board) (c : ℕ) (step : Step) (x : ℕ) → owner_of ((after_own_part b c step).axis x) ≡ (if among (axes_freed (alarm_of b c step.action) step.action) x then None else owner_of (b.axis x))
@@ -163,5 +164,5 @@ in_numbers (suc n) a c on = elim (or_cases (a == c) (among (range_with_len (a + 
   | inr later ↦ let w = in_numbers n (a + 1) c later in (omega (arith, w.0), omega (arith, w.1))
 ]
 
-pub channel_within : (c : ℕ) → among channel_numbers c ≡ true → (1 ≤ c) × (c < 9)
-channel_within c on = let w = in_numbers 8 1 c on in (w.0, omega (arith, w.1))
+pub channel_within : (c : ℕ) → among channel_numbers c ≡ true → (1 ≤ c) × (c < CHANNEL_PLACES)
+channel_within c on = let w = in_numbers CHANNEL_LIMIT 1 c on in (w.0, omega (arith, w.1))

@@ -1,4 +1,5 @@
 -- In each run the grant of a channel that runs tells which of the zones are on that the channel holds.
+use Rattle.axis_sets.specs.declared.limits.TheConstants.{CHANNEL_LIMIT, ZONE_LIMIT, ZONE_PLACES}
 use Rattle.std.proofs.Common.{◌≡◌, ◌∙◌, ℕ, ℤ, zero, suc, ◌+◌, ◌≤◌, ◌==◌, ◌&&◌, ◌||◌, Bool, true, false, cond, List, [], ◌∷◌, map, length, Option, None, Some, refl, sym, ap, subst, arith, eqb-true, eq-eqb}
 use Rattle.std.specs.List.{list_any}
 use Rattle.std.proofs.lemmas.Bool.{and_parts, ne_eqb}
@@ -58,11 +59,11 @@ carrying zone (y ∷ ys) some = by_first (has zone y) refl some (carrying zone y
 
 -- ---- grants
 
-module _ (z : ℕ) (low : 1 ≤ z) (high : z ≤ 32) where
+module _ (z : ℕ) (low : 1 ≤ z) (high : z ≤ ZONE_LIMIT) where
   -- the grant tells whether the zone is on, in a row of all zones
   pub record IsTold (on : Bool) (grant : Grant) : Type 0 where
     pub told : has grant.on z ≡ on
-    pub row : length grant.on ≡ 33
+    pub row : length grant.on ≡ ZONE_PLACES
 
   abbrev pub IsToldIn : Bool → State → Type 0
   IsToldIn on (IsRunning grant) = IsTold on grant
@@ -77,7 +78,7 @@ module _ (z : ℕ) (low : 1 ≤ z) (high : z ≤ 32) where
 
   flag_at : (flag : ℕ → Bool) (n : ℕ) → n ≡ z → has (false ∷ map flag zone_numbers) n ≡ flag n
   flag_at flag zero is = absurd (omega arith)
-  flag_at flag (suc n) is = let next : 1 + n ≡ suc n = omega arith in get_or-map-range_with_len flag 1 32 n (suc n) false (omega arith) next
+  flag_at flag (suc n) is = let next : 1 + n ≡ suc n = omega arith in get_or-map-range_with_len flag 1 ZONE_LIMIT n (suc n) false (omega arith) next
 
   granted : (b : Board) (d : ℕ) (at : List (Option ℤ)) → IsTold (holds_on b d) (grant_with b d at)
   unfolding grant_with
@@ -203,7 +204,7 @@ module _ (z : ℕ) (low : 1 ≤ z) (high : z ≤ 32) where
   told_step b c step zs t =
       let own : Board = after_own_part b c step in
       let zones : Zones own = zones_part b c step zs in
-      told_takings 8 (after_goes own) (zones_goes own zones) (told_goes own (told_part b c step (alarm_of b c step.action) refl zs t))
+      told_takings CHANNEL_LIMIT (after_goes own) (zones_goes own zones) (told_goes own (told_part b c step (alarm_of b c step.action) refl zs t))
 
   told_first : (start : StartView) → AreTold (first_board start)
   unfolding first_state

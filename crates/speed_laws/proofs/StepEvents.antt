@@ -1,4 +1,5 @@
 -- What a step of a running channel is for one channel: whether the channel goes on in it, and what it does then.
+use Rattle.axis_sets.specs.declared.limits.TheConstants.{CHANNEL_LIMIT}
 use Rattle.std.proofs.Common.{◌≡◌, ◌⊎◌, ◌∙◌, ℕ, zero, suc, Bool, true, false, cond, ◌==◌, ◌||◌, List, [], ◌∷◌, ◌++◌, map, filter, Option, None, Some, inl, inr, refl, sym, ap, subst}
 use Rattle.std.specs.Prelude.{is_some}
 use Rattle.std.proofs.lemmas.Bool.{and_parts, cases_Bool, eqb-true, eq-eqb, ne_eqb}
@@ -78,7 +79,7 @@ module _ (b : Board) (p : ℕ) (step : Step) (zs : Zones b) (running : is_runnin
   goings = goings_in_step b p step
 
   pub taken : AllTaken (after_goes part) (all_takings (after_goes part))
-  taken = all_taken 8 (after_goes part) (zones_goes part (zones_part b p step zs))
+  taken = all_taken CHANNEL_LIMIT (after_goes part) (zones_goes part (zones_part b p step zs))
 
   -- who is started was idle
   pub started_was : (c : ℕ) → among starts c ≡ true → (is_idle (b.state c) ≡ true) × (alarm_of b p step.action ≡ None)
@@ -107,7 +108,7 @@ module _ (b : Board) (p : ℕ) (step : Step) (zs : Zones b) (running : is_runnin
     | inr out ↦ out
     | inl on ↦
         let w = going_there (all_takings (after_goes part)).goings c on in
-        let t = takings_take 8 (after_goes part) w.0 w.1.0 in
+        let t = takings_take CHANNEL_LIMIT (after_goes part) w.0 w.1.0 in
         no_truth (waits_for_axes w.0.from) t.waits (ap waits_for_axes t.from ∙ ap (λ (d : ℕ). waits_for_axes ((after_goes part).state d)) w.1.1 ∙ off)
   ]
 

@@ -1,4 +1,5 @@
 -- A channel that goes on is told which of the zones that it holds are on.
+use Rattle.axis_sets.specs.declared.limits.TheConstants.{CHANNEL_LIMIT, ZONE_LIMIT}
 use Rattle.std.proofs.Common.{◌≡◌, ◌⊎◌, ◌∙◌, ℕ, zero, suc, ◌+◌, ◌≤◌, Bool, true, false, cond, ◌==◌, ◌&&◌, ◌||◌, List, [], ◌∷◌, ◌++◌, map, filter, Option, None, Some, inl, inr, refl, sym, ap, subst, arith}
 use Rattle.std.proofs.lemmas.Bool.{and_parts, cases_Bool, eqb-true, eq-eqb, ne_eqb}
 use Rattle.std.proofs.lemmas.List.{map-append}
@@ -42,9 +43,9 @@ first_there (y ∷ xs) x is = let same : y ≡ x = cc in rw (eq-eqb y x same) re
 pub first_has : (row : List Bool) (x : ℕ) → first_of (members_of row) ≡ Some x → has row x ≡ true
 first_has row x is = sym (list_any-members_of row x) ∙ first_there (members_of row) x is
 
-flag_at : (flag : ℕ → Bool) (z : ℕ) → 1 ≤ z → z ≤ 32 → has (false ∷ map flag zone_numbers) z ≡ flag z
+flag_at : (flag : ℕ → Bool) (z : ℕ) → 1 ≤ z → z ≤ ZONE_LIMIT → has (false ∷ map flag zone_numbers) z ≡ flag z
 flag_at flag zero low high = absurd (omega arith)
-flag_at flag (suc n) low high = let next : 1 + n ≡ suc n = omega arith in get_or-map-range_with_len flag 1 32 n (suc n) false (omega arith) next
+flag_at flag (suc n) low high = let next : 1 + n ≡ suc n = omega arith in get_or-map-range_with_len flag 1 ZONE_LIMIT n (suc n) false (omega arith) next
 
 pub owned_this : (o : Option ℕ) (c : ℕ) → o ≡ Some c → is_this o c ≡ true
 owned_this o c is = rw is (eq-eqb c c refl)
@@ -63,7 +64,7 @@ module _ (b : Board) (p : ℕ) (step : Step) (zs : Zones b) (running : is_runnin
   zones_before = zones_goes part (zones_part b p step zs)
 
   zones_final : Zones final
-  zones_final = zones_takings 8 before zones_before
+  zones_final = zones_takings CHANNEL_LIMIT before zones_before
 
   -- a taker of an axis of the zone, which is this channel
   record TookIt (c : ℕ) : Type 0 where
@@ -117,7 +118,7 @@ module _ (b : Board) (p : ℕ) (step : Step) (zs : Zones b) (running : is_runnin
       no_truth (among g.took took.axis) (ap (λ (h : Going). among h.took took.axis) (sym same) ∙ took.took) (none took.axis)
 
   bare_on : (g : Going) → IsIn g (goings_in_step b p step) → ((x : ℕ) → among g.took x ≡ false) → g.grant.on ≡ false ∷ map (λ n. is_this (part.holder n) g.channel && part.is_on n) zone_numbers
-      → 1 ≤ z → z ≤ 32 → final.holder z ≡ Some g.channel → has g.grant.on z ≡ final.is_on z
+      → 1 ≤ z → z ≤ ZONE_LIMIT → final.holder z ≡ Some g.channel → has g.grant.on z ≡ final.is_on z
   bare_on g within none on low high held =
       let held_before : part.holder z ≡ Some g.channel = elim (before_or_took g.channel held) [ inl old ↦ old | inr took ↦ absurd (no_taker g within none took) ] in
       ap (λ (row : List Bool). has row z) on
@@ -168,7 +169,7 @@ module _ (b : Board) (p : ℕ) (step : Step) (zs : Zones b) (running : is_runnin
   unfolding grant_by
   taker_row c = refl
 
-  taker_on : (g : Going) → IsIn g (all_takings before).goings → 1 ≤ z → z ≤ 32 → final.holder z ≡ Some g.channel → has g.grant.on z ≡ final.is_on z
+  taker_on : (g : Going) → IsIn g (all_takings before).goings → 1 ≤ z → z ≤ ZONE_LIMIT → final.holder z ≡ Some g.channel → has g.grant.on z ≡ final.is_on z
   taker_on g within low high held =
       let t = (taken b p step zs running).each g (of_in g (all_takings before).goings within) in
       ap (λ (grant : Grant). has grant.on z) t.grant
@@ -177,7 +178,7 @@ module _ (b : Board) (p : ℕ) (step : Step) (zs : Zones b) (running : is_runnin
       ∙ rw (taker_holds g within held) (ap (λ (f : ℕ → Bool). f z) (sym (taken b p step zs running).on))
 
   -- who goes on is told of each zone that it holds then whether it is on
-  pub going_on : (g : Going) → IsIn g (goings_in_step b p step) → 1 ≤ z → z ≤ 32 → (after_step b p step).holder z ≡ Some g.channel → has g.grant.on z ≡ (after_step b p step).is_on z
+  pub going_on : (g : Going) → IsIn g (goings_in_step b p step) → 1 ≤ z → z ≤ ZONE_LIMIT → (after_step b p step).holder z ≡ Some g.channel → has g.grant.on z ≡ (after_step b p step).is_on z
   going_on g within low high held =
       elim ((in_append g (map (going_of_start part) (channels_started (alarm_of b p step.action) step.action)) (map (going_at_once part) (goers_at_once part) ++ (all_takings before).goings)).0 within) [
         | inl start ↦
@@ -219,7 +220,7 @@ module _ (b : Board) (p : ℕ) (step : Step) (zs : Zones b) (running : is_runnin
 
 -- ---- a channel's events tell it
 
-module _ (doings : Doings) (z : ℕ) (low : 1 ≤ z) (high : z ≤ 32) where
+module _ (doings : Doings) (z : ℕ) (low : 1 ≤ z) (high : z ≤ ZONE_LIMIT) where
   on_append : (on : ℕ → Bool) (ts us : List Telling) → told_on on (ts ++ us) ≡ told_on (told_on on ts) us
   on_append on [] us = refl
   on_append on (t ∷ ts) us = on_append (has t.on) ts us

@@ -4,12 +4,12 @@ ghost use Rattle.stop_verdicts.specs.FirstAnswer.{first_some};
 ghost use Rattle.stop_verdicts.specs.Stops as model;
 
 use arrayvec::ArrayVec;
-use axis_sets::{CHANNEL_PLACES, ChannelId};
+use axis_sets::{CHANNEL_LIMIT, CHANNEL_PLACES, ChannelId};
 use job_types::{ChannelLine, Job};
 use sync_types::{ChannelEnd, Run, Verdict};
 
 /// The channels of a job with how each has stopped.
-pub(crate) type Stops = ArrayVec<(ChannelId, ChannelEnd), 8>;
+pub(crate) type Stops = ArrayVec<(ChannelId, ChannelEnd), CHANNEL_LIMIT>;
 
 /// Whether a line declares a channel of this number.
 fn is_numbered(line: &ChannelLine, number: u8) -> bool

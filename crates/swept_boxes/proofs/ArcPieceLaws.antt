@@ -1,4 +1,5 @@
 -- The pieces of an arc hold each point of its path, and lie in its cover.
+use Rattle.swept_boxes.specs.declared.limits.TheConstants.{PIECE_LIMIT}
 use Rattle.std.proofs.Common.{◌≡◌, ◌∙◌, ◌+◌, ◌-◌, ◌*◌, ◌/◌, ◌%◌, ◌^◌, ◌<◌, ◌≤◌, ◌⊎◌, ℕ, zero, suc, inl, inr, List, [], ◌∷◌, ◌++◌, Some, None, length, get_or, map, refl, ap, sym, subst, arith, length-append}
 use Rattle.std.proofs.Math.Nat.{mul-le-mul, one-le-pow}
 use Rattle.std.proofs.lemmas.List.{length-map, get_or-map}
@@ -149,7 +150,7 @@ length_flat f n each (x ∷ xs) = omega (arith, length-append (f x) (flat_map f 
 length_pieces : (arc : Arc) (depth : ℕ) (q : Quarter) → length (pieces_of_quarter arc depth q) ≡ 2 ^ depth
 length_pieces arc depth q = rw length-map (length-halves depth q.from q.to)
 
-pub few_arc_pieces : (arc : Arc) (depth : ℕ) → depth ≤ 4 → length (arc_pieces arc depth) ≤ 80
+pub few_arc_pieces : (arc : Arc) (depth : ℕ) → depth ≤ 4 → length (arc_pieces arc depth) ≤ PIECE_LIMIT
 few_arc_pieces arc depth h =
     omega (arith, length_flat (pieces_of_quarter arc depth) (2 ^ depth) (length_pieces arc depth) (quarters_of arc), mul-le-mul (quarters_few arc) (few_parts depth h))
 

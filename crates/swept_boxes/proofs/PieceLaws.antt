@@ -1,4 +1,5 @@
 -- The pieces of a motion hold each point of its path, and lie in its cover.
+use Rattle.swept_boxes.specs.declared.limits.TheConstants.{PIECE_LIMIT}
 use Rattle.std.proofs.Common.{◌≡◌, ◌∙◌, ◌+◌, ◌-◌, ◌*◌, ◌/◌, ◌^◌, ◌<◌, ◌≤◌, ◌⊎◌, ℕ, zero, suc, inl, inr, List, [], ◌∷◌, Some, None, length, get_or, map, drop, refl, ap, subst, sym, zero-add, arith}
 use Rattle.std.proofs.Math.Nat.{mul-le-mul_right, mul-lt-mul_of_pos_right, one-le-pow}
 use Rattle.std.proofs.lemmas.Int.{ints}
@@ -309,13 +310,13 @@ pub only_piece : (ends : EndsView) (place : ℕ) (piece : RangesView) → place 
 only_piece ends zero piece e is = ap (λ (r : RangesView). Some r) is
 only_piece ends (suc place) piece e is = absurd (omega arith)
 
-pub few_pieces : (motion : Motion) (depth : ℕ) → depth ≤ 4 → length (pieces_at motion depth) ≤ 80
+pub few_pieces : (motion : Motion) (depth : ℕ) → depth ≤ 4 → length (pieces_at motion depth) ≤ PIECE_LIMIT
 few_pieces (Line ends) depth h = rw length-map-range_with_len (omega (arith, few_parts depth h))
 few_pieces (Rapid ends) depth h = omega arith
 few_pieces (Kind.Arc arc) depth h = few_arc_pieces arc depth h
 
 -- a place that has a piece is among the first eighty
-pub few_places : (motion : Motion) (depth place : ℕ) (piece : RangesView) → depth ≤ 4 → Some piece ≡ slice_get (pieces_at motion depth) place → place < 80
+pub few_places : (motion : Motion) (depth place : ℕ) (piece : RangesView) → depth ≤ 4 → Some piece ≡ slice_get (pieces_at motion depth) place → place < PIECE_LIMIT
 few_places motion depth place piece deep h =
     omega (arith, few_pieces motion depth deep, get_within (pieces_at motion depth) place piece (sym h))
 

@@ -2,6 +2,7 @@
 #![tactic(auto)]
 
 mod arcs;
+mod limits;
 mod lines;
 mod sweeps;
 
@@ -9,6 +10,7 @@ use arrayvec::ArrayVec;
 use axis_sets::{AXIS_LIMIT, AxisId};
 use micro_units::Um;
 use std::marker::Model;
+pub use limits::PIECE_LIMIT;
 pub use sweeps::{Pieces, cover, pieces_of};
 
 /// A range in micrometres for each of some axes, low and high bound included.

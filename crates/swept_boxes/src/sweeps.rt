@@ -7,6 +7,7 @@ ghost use Rattle.path_geometry.specs.Path.{Point, IsOnPath};
 ghost use Rattle.swept_boxes.specs.Cover.{cover_of, AreSmallest};
 ghost use Rattle.swept_boxes.specs.Pieces.{pieces_at, pieces_of_line, pieces_of_rapid, pieces_of_quarter, quarters_in};
 ghost use Rattle.swept_boxes.specs.Ranges.{Hold, LieIn};
+ghost use Rattle.swept_boxes.specs.declared.limits.TheConstants.{PIECE_LIMIT};
 
 use crate::Ranges;
 use crate::arcs::{arc_cover, box_of_part, ranges_over};
@@ -156,7 +157,7 @@ pub fn pieces_of(motion: &Motion, depth: u8) -> Pieces<'_>
     ensures pieces { result ≡ pieces_at motion.now depth }
     ensures covers { (point : Point) → IsOnPath motion.now point → Any (λ piece. Hold piece point) result }
     ensures in_cover { All (λ piece. LieIn piece (cover_of motion.now)) result }
-    ensures few { length result ≤ 80 }
+    ensures few { length result ≤ PIECE_LIMIT }
 {
     Pieces {
         motion,

@@ -1,4 +1,5 @@
 -- At most eight channels go on in a step.
+use Rattle.axis_sets.specs.declared.limits.TheConstants.{CHANNEL_LIMIT, CHANNEL_PLACES}
 use Rattle.std.proofs.Common.{arith, inl, inr, ◌≡◌, ℕ, ◌+◌, ◌≤◌, zero, suc, ◌==◌, Bool, true, false, cond, List, [], ◌∷◌, ◌++◌, length, length-append, map, Option, Some, None, filter, refl, ap, ◌∙◌}
 use Rattle.std.proofs.lemmas.Bool.{cases_Bool}
 use Rattle.std.proofs.lemmas.List.{length-map}
@@ -60,7 +61,7 @@ unfolding state_after_goes
 still_none b x off = by_test (λ s. waits_for_axes s ≡ false) (among (goers_at_once b) x) _ _ (λ goes. refl) (λ stays. off)
 
 goings_within : (b : Board) (starts : List ℕ) (p : ℕ → Bool) → length starts ≤ length (filter p channel_numbers) → ((x : ℕ) → p x ≡ true → is_running (b.state x) ≡ true)
-    → length (goings_on b starts) ≤ 8
+    → length (goings_on b starts) ≤ CHANNEL_LIMIT
 goings_within b starts p few runs =
     let q : ℕ → Bool = λ x. goes_at_once b (b.state x) in
     let r : ℕ → Bool = λ x. waits_for_axes ((after_goes b).state x) in
@@ -75,7 +76,7 @@ goings_within b starts p few runs =
       arith,
       few,
       apart,
-      takings_within 8 (after_goes b),
+      takings_within CHANNEL_LIMIT (after_goes b),
       length-append started (at_once ++ takers),
       length-append at_once takers,
       length-map starts (going_of_start b),
@@ -93,14 +94,14 @@ started_run b c step d on = by_test (λ s. is_running s ≡ true) (d == c) _ _ (
 
 starts_within : (action : Action) → StartsChannels action → length (channels_to_start action) ≤ length (filter (among (channels_to_start action)) channel_numbers)
 starts_within (Start named) sized =
-    let by_length : length (members_of named) ≡ length (filter (has named) (range_with_len 0 9)) = ap (λ n. length (filter (has named) (range_with_len 0 n))) sized.0 in
-    let without_none : length (filter (has named) (range_with_len 0 9)) ≡ length (filter (has named) channel_numbers) =
+    let by_length : length (members_of named) ≡ length (filter (has named) (range_with_len 0 CHANNEL_PLACES)) = ap (λ n. length (filter (has named) (range_with_len 0 n))) sized.0 in
+    let without_none : length (filter (has named) (range_with_len 0 CHANNEL_PLACES)) ≡ length (filter (has named) channel_numbers) =
     ap (λ (t : Bool). length (cond t (0 ∷ filter (has named) channel_numbers) (filter (has named) channel_numbers))) sized.1 in
     let same = fewer (among (members_of named)) (has named) channel_numbers (λ x on. list_any-members_of named x ∙ on) in
     omega (arith, by_length, without_none, same)
 starts_within other sized = omega arith
 
-goings_of_part : (b : Board) (c : ℕ) (step : Step) (alarm : Option ℕ) → StartsChannels step.action → length (goings_on (after_part b c step alarm) (channels_started alarm step.action)) ≤ 8
+goings_of_part : (b : Board) (c : ℕ) (step : Step) (alarm : Option ℕ) → StartsChannels step.action → length (goings_on (after_part b c step alarm) (channels_started alarm step.action)) ≤ CHANNEL_LIMIT
 goings_of_part b c step (Some code) sized = goings_within (after_part b c step (Some code)) [] (λ x. false) (omega arith) (λ x on. no_truth false on refl)
 goings_of_part b c step None sized =
     goings_within (after_action b c step) (channels_to_start step.action) (among (channels_to_start step.action)) (starts_within step.action sized) (started_run b c step)

@@ -1,4 +1,6 @@
 -- After a step nobody can go on.
+use Rattle.std.proofs.Common.{◌-◌}
+use Rattle.axis_sets.specs.declared.limits.TheConstants.{CHANNEL_LIMIT}
 use Rattle.std.proofs.Common.{eq-eqb, eqb-true, arith, inl, inr, ◌≡◌, ℕ, ◌<◌, ◌≤◌, zero, suc, ◌==◌, ◌&&◌, ◌||◌, Bool, true, false, List, [], ◌∷◌, ◌++◌, length, map, Option, Some, None, filter, refl, ap, ap₂, ◌∙◌}
 use Rattle.std.specs.Prelude.{is_some}
 use Rattle.std.proofs.lemmas.Bool.{cases_Bool, and_parts, false_from_ne_true}
@@ -148,8 +150,8 @@ pub settled : (b : Board) (c : ℕ) (step : Step) → NobodyCanGo (after_step b 
 settled b c step =
     let own : Board = after_own_part b c step in
     record {
-      no_goer = none_kept (λ d. goes_at_once (after_step b c step) ((after_step b c step).state d)) channel_numbers (waits_after_takings 8 (after_goes own) (waits_after_goes own));
-      no_taker = no_taker_left 8 (after_goes own) (at_most_all (λ d. waits_for_axes ((after_goes own).state d)) channel_numbers);
+      no_goer = none_kept (λ d. goes_at_once (after_step b c step) ((after_step b c step).state d)) channel_numbers (waits_after_takings CHANNEL_LIMIT (after_goes own) (waits_after_goes own));
+      no_taker = no_taker_left CHANNEL_LIMIT (after_goes own) (at_most_all (λ d. waits_for_axes ((after_goes own).state d)) channel_numbers);
     }
 
 empty_from : (xs : List ℕ) → first_of xs ≡ None → xs ≡ []
@@ -188,7 +190,7 @@ alarmed_goings b c step None rest alarms = no_truth false alarms refl
 alarmed_goings b c step (Some code) rest alarms =
     let a : Board = after_alarm b c step code in
     ap₂ (λ (cs : List ℕ) (gs : List Going). map (going_at_once a) cs ++ gs) (no_goer_after_alarm b c step code rest)
-    (ap (λ (t : Option ℕ). (takings_from (takings 7) (after_goes a) t).goings) (no_taker_after_alarm b c step code rest))
+    (ap (λ (t : Option ℕ). (takings_from (takings (CHANNEL_LIMIT - 1)) (after_goes a) t).goings) (no_taker_after_alarm b c step code rest))
 
 pub alarm_lets_nobody_go : (b : Board) (c : ℕ) (step : Step) → AlarmLetsNobodyGo b c step
 alarm_lets_nobody_go b c step rest alarms = alarmed_goings b c step (alarm_of b c step.action) rest alarms

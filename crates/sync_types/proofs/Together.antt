@@ -1,4 +1,5 @@
 -- Axes and zones stay together.
+use Rattle.axis_sets.specs.declared.limits.TheConstants.{CHANNEL_LIMIT}
 use Rattle.std.proofs.Common.{eqb-true, ap₂, inl, inr, ◌≡◌, ℕ, ℤ, zero, suc, ◌==◌, ◌&&◌, Bool, true, false, cond, List, [], ◌∷◌, Option, Some, None, if◌then◌else◌, refl, sym, ap, ◌∙◌}
 use Rattle.std.proofs.lemmas.Bool.{cases_Bool, and_parts}
 use Rattle.std.proofs.lemmas.List.Elements.{All-head, All-tail}
@@ -188,7 +189,7 @@ pub keeps_step : (b : Board) (m : Move) → has_channel b.start m.channel ≡ tr
 keeps_step b m on k =
     let own : Board = after_own_part b m.channel m.step in
     let kept : Keeps own = keeps_part b m.channel m.step (alarm_of b m.channel m.step.action) refl on k in
-    let rest = keeps_takings 8 (after_goes own) (keeps_goes own kept) in
+    let rest = keeps_takings CHANNEL_LIMIT (after_goes own) (keeps_goes own kept) in
     (rest.0, rest.1 ∙ start_of_part b m.channel m.step (alarm_of b m.channel m.step.action))
 
 keeps_moves : (start : StartView) (b : Board) (ms : List Move) → b.start ≡ start → AreOfChannels start ms → Keeps b → Keeps (after_moves b ms)

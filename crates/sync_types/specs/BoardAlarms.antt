@@ -1,4 +1,5 @@
 -- Meaning. The alarm of an action on the board, the first that fits.
+use Rattle.axis_sets.specs.declared.limits.TheConstants.{MARK_LIMIT}
 use Rattle.std.specs.Prelude.{ℕ, ◌||◌, not, nat_lt, Bool, false, List, [], ◌∷◌, Option, Some, None, is_some, if◌then◌else◌}
 use Rattle.std.specs.List.{list_all}
 use Rattle.axis_sets.specs.Sets.{members_of, has}
@@ -9,7 +10,7 @@ use Rattle.sync_types.specs.declared.Action.TheVariants.{WaitM, Init, Start, Wai
 
 -- marks have the numbers 0 to 9
 abbrev pub mark_count : ℕ
-mark_count = 10
+mark_count = MARK_LIMIT
 
 -- the number of a mark that there is not: alarm 25
 abbrev pub names_no_mark : Action → Bool

@@ -1,4 +1,5 @@
 -- Meaning. The board on which channels meet: marks, owners of axes, zones, and what each channel does.
+use Rattle.axis_sets.specs.declared.limits.TheConstants.{AXIS_LIMIT, CHANNEL_LIMIT, ZONE_LIMIT}
 use Rattle.std.specs.Prelude.{ℕ, ℤ, ◌==◌, ◌&&◌, Bool, true, false, List, ◌∷◌, map, Option, Some, None, if◌then◌else◌}
 use Rattle.std.specs.List.{range_with_len, list_any}
 use Rattle.sync_types.specs.Starts.{first_program, runs_at_first, first_owner, first_position, first_holder, is_on_at_first}
@@ -37,13 +38,13 @@ pub record Board : Type 0 where
 
 -- the numbers that channels, axes and zones may have
 abbrev pub channel_numbers : List ℕ
-channel_numbers = range_with_len 1 8
+channel_numbers = range_with_len 1 CHANNEL_LIMIT
 
 abbrev pub axis_numbers : List ℕ
-axis_numbers = range_with_len 0 16
+axis_numbers = range_with_len 0 AXIS_LIMIT
 
 abbrev pub zone_numbers : List ℕ
-zone_numbers = range_with_len 1 32
+zone_numbers = range_with_len 1 ZONE_LIMIT
 
 abbrev pub among : List ℕ → ℕ → Bool
 among numbers n = list_any (λ m. m == n) numbers

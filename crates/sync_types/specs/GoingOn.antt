@@ -1,4 +1,5 @@
 -- Meaning. Who goes on in a step, and what it goes on with: three rules, one after another.
+use Rattle.axis_sets.specs.declared.limits.TheConstants.{CHANNEL_LIMIT}
 use Rattle.std.specs.Prelude.{ℕ, ℤ, pos, zero, suc, ◌==◌, ◌&&◌, ◌||◌, not, Bool, true, false, List, [], ◌∷◌, ◌++◌, map, filter, Option, Some, None, if◌then◌else◌}
 use Rattle.std.specs.List.{list_all}
 use Rattle.sync_types.specs.BoardActions.{carries}
@@ -103,7 +104,7 @@ takings (suc n) b = elim (next_taker b) [
 
 -- Each taking ends a wait of a channel, so eight are enough: the law after_a_step_nobody_can_go shows that none can after them.
 abbrev pub all_takings : Board → Takings
-all_takings b = takings 8 b
+all_takings b = takings CHANNEL_LIMIT b
 
 abbrev pub going_of_start : Board → ℕ → Going
 going_of_start b c = record { channel = c; from = IsIdle; took = []; grant = start_grant b c }

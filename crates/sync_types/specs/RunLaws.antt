@@ -1,4 +1,5 @@
 -- Law. What is so of all runs and events.
+use Rattle.axis_sets.specs.declared.limits.TheConstants.{CHANNEL_LIMIT, CHANNEL_PLACES}
 use Rattle.std.specs.Prelude.{◌≡◌, ℕ, ◌≤◌, true, false, List, [], length, map, filter, Some, None, is_some}
 use Rattle.sync_types.specs.BoardEnds.{end_of, ends_of}
 use Rattle.axis_sets.specs.Sets.{has}
@@ -27,12 +28,12 @@ AlarmLetsNobodyGo b c step = NobodyCanGo b → is_some (alarm_of b c step.action
 
 -- START names channels, by their numbers 1 to 8
 abbrev pub StartsChannels : Action → Type 0
-StartsChannels (Start named) = (length named ≡ 9) × (has named 0 ≡ false)
+StartsChannels (Start named) = (length named ≡ CHANNEL_PLACES) × (has named 0 ≡ false)
 StartsChannels other = Unit {0}
 
 -- at most eight channels go on in a step
 abbrev pub AtMostEightGo : Board → ℕ → Step → Type 0
-AtMostEightGo b c step = StartsChannels step.action → length (goings_in_step b c step) ≤ 8
+AtMostEightGo b c step = StartsChannels step.action → length (goings_in_step b c step) ≤ CHANNEL_LIMIT
 
 -- the steps of a run are of running channels, and leave the run's board
 pub record RunIsReplay (script : Script) (stage : Stage) (cs : List ℕ) : Type 0 where

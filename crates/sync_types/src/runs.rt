@@ -1,7 +1,7 @@
 //! What a run has: an entry for each step, and what each channel did and how it stopped.
 use crate::{ChannelEnd, Grant, Item, Step};
 use arrayvec::ArrayVec;
-use axis_sets::ChannelId;
+use axis_sets::{CHANNEL_LIMIT, ChannelId};
 use std::marker::Model;
 
 /// A channel goes on, with this grant.
@@ -21,7 +21,7 @@ pub struct Entry {
     /// What it did.
     pub step: Step,
     /// Who goes on, in order.
-    pub goes: ArrayVec<Go, 8>,
+    pub goes: ArrayVec<Go, CHANNEL_LIMIT>,
 }
 
 impl Model for Entry {
@@ -42,7 +42,7 @@ pub struct Run {
     /// For each entry what its channel did before that step.
     pub items: Vec<Vec<Item>>,
     /// For each channel of the job how it has stopped, the lowest channel first.
-    pub ends: ArrayVec<ChannelEnd, 8>,
+    pub ends: ArrayVec<ChannelEnd, CHANNEL_LIMIT>,
 }
 
 impl Model for Run {

@@ -1,4 +1,5 @@
 -- What job lines tell that break no rule is sound.
+use Rattle.axis_sets.specs.declared.limits.TheConstants.{AXIS_LIMIT, CHANNEL_LIMIT, ZONE_LIMIT}
 use Rattle.std.proofs.Common.{◌≡◌, ◌≢◌, ◌∙◌, ℕ, zero, suc, ◌+◌, ◌<◌, ◌≤◌, ℤ, Bool, true, false, ◌&&◌, ◌||◌, not, ◌==◌, nat_le, nat_lt, if◌then◌else◌, true≢false, position, List, [], ◌∷◌, ◌++◌, length, slice_get, Option, Some, None, IfSome, IsSome, get_or, subst, refl, sym, ap, arith, length-append, rules}
 use Rattle.std.specs.List.{All, AllPairs, position_or_len}
 use Rattle.std.specs.Option.{option_and_then, option_map}
@@ -7,7 +8,6 @@ use Rattle.std.proofs.lemmas.Option.{slice_get_within}
 use Rattle.std.proofs.lemmas.List.Elements.{All-nil, All-cons, All-push, All-weaker}
 use Rattle.std.proofs.lemmas.List.Kept.{AllPairs-cons}
 use Rattle.std.proofs.lemmas.List.Quantifiers.{all_pairs_push}
-use Rattle.axis_sets.specs.declared.limits.TheConstants.{AXIS_LIMIT, CHANNEL_LIMIT}
 use Rattle.job_lines.proofs.ExtentLaws.{few_axes}
 use Rattle.job_lines.specs.Extent.{extent_of}
 use Rattle.job_lines.specs.declared.code.Code.TheVariants.{NotDeclared, DeclaredTwice, OwnerDiffers, TooMany}
@@ -443,7 +443,7 @@ sides_pass job zone holder x y z none =
     )
 
 pub zone_told : (job : JobView) (number : ℕ) (zone : NamedZone) (x y z : Side) → ListFacts job → rule.zone_rule job zone.zone zone.holder (Some x) (Some y) (Some z) ≡ None
-    → (1 ≤ zone.zone) × (zone.zone ≤ 32) → (1 ≤ zone.group) × (zone.group ≤ 32) → IsSoundRange x.lo x.hi → IsSoundRange y.lo y.hi → IsSoundRange z.lo z.hi
+    → (1 ≤ zone.zone) × (zone.zone ≤ ZONE_LIMIT) → (1 ≤ zone.group) × (zone.group ≤ ZONE_LIMIT) → IsSoundRange x.lo x.hi → IsSoundRange y.lo y.hi → IsSoundRange z.lo z.hi
     → ListFacts (with_zone job (record { line = number; zone = zone.zone; group = zone.group; holder = zone.holder; on = zone.on; sides = x ∷ y ∷ z ∷ [] }))
 zone_told job number zone x y z facts none zone_range group_range x_range y_range z_range =
     let line : ZoneLine = record { line = number; zone = zone.zone; group = zone.group; holder = zone.holder; on = zone.on; sides = x ∷ y ∷ z ∷ [] } in

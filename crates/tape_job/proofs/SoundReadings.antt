@@ -1,4 +1,5 @@
 -- What holds of all that a line can say by itself.
+use Rattle.axis_sets.specs.declared.limits.TheConstants.{CHANNEL_LIMIT, ZONE_LIMIT}
 use Rattle.std.specs.Bool.{⊤}
 use Rattle.std.proofs.Common.{◌≡◌, inl, inr, ℕ, zero, suc, ◌≤◌, ◌<◌, ℤ, pos, negsuc, neg_ℤ, unsigned_abs, Bool, true, false, ◌&&◌, ◌||◌, not, if◌then◌else◌, nat_le, nat_lt, int_le, length, ◌==◌, codes, List, [], ◌∷◌, Result, Ok, Err, IfOk, Option, Some, None, IfSome, IsSome, refl, rules, arith}
 use Rattle.std.specs.List.{list_any}
@@ -11,7 +12,6 @@ use Rattle.block_scanner.specs.Tokens.{tokens_of}
 use Rattle.block_scanner.specs.declared.ScanFault.{ScanFault}
 use Rattle.block_scanner.specs.declared.ScanFault.TheVariants as fault
 use Rattle.block_scanner.specs.declared.Token.{Token}
-use Rattle.axis_sets.specs.declared.limits.TheConstants.{CHANNEL_LIMIT}
 use Rattle.job_lines.specs.declared.code.Code.{Code}
 use Rattle.job_lines.specs.declared.code.Code.TheVariants.{OutOfRange}
 use Rattle.job_lines.specs.declared.declaration.AxisName.{AxisName}
@@ -81,9 +81,9 @@ unfolding declaration.channel_of
 channel_sound greatest few word =
     or_ok (IsWithin 1 CHANNEL_LIMIT) OutOfRange (number_within 1 greatest word) (no_higher 1 greatest CHANNEL_LIMIT (number_within 1 greatest word) few (number_sound 1 greatest word))
 
-zone_sound : (word : List ℕ) → IfOk (declaration.zone_of word) (IsWithin 1 32)
+zone_sound : (word : List ℕ) → IfOk (declaration.zone_of word) (IsWithin 1 ZONE_LIMIT)
 unfolding declaration.zone_of
-zone_sound word = or_ok (IsWithin 1 32) OutOfRange (number_within 1 32 word) (number_sound 1 32 word)
+zone_sound word = or_ok (IsWithin 1 ZONE_LIMIT) OutOfRange (number_within 1 ZONE_LIMIT word) (number_sound 1 ZONE_LIMIT word)
 
 -- lengths
 reach_by : (near : Bool) (z : ℤ) → nat_le (unsigned_abs z) 10000000 ≡ near → IfSome (if near then Some z else None) IsPosition
@@ -173,7 +173,7 @@ abbrev pub IsSoundDeclaration : Declaration → Type 0
 IsSoundDeclaration (Channel channel program starts) = IsWithin 1 CHANNEL_LIMIT channel × (starts ≡ true → IsSome program)
 IsSoundDeclaration (Axis name owner at) = IsPosition at
 IsSoundDeclaration (Offset channel g slot by) = IsSettable g × (slot < 3) × IsPosition by
-IsSoundDeclaration (Zone zone) = IsWithin 1 32 zone.zone × IsWithin 1 32 zone.group × IsSoundSide zone.x × IsSoundSide zone.y × IsSoundSide zone.z
+IsSoundDeclaration (Zone zone) = IsWithin 1 ZONE_LIMIT zone.zone × IsWithin 1 ZONE_LIMIT zone.group × IsSoundSide zone.x × IsSoundSide zone.y × IsSoundSide zone.z
 IsSoundDeclaration (Margin margin) = IsSoundMargin margin
 IsSoundDeclaration (Depth depth) = depth ≤ 4
 IsSoundDeclaration (Budget budget) = IsWithin 1 100000000 budget
@@ -236,8 +236,8 @@ zone_declaration_sound : (greatest : ℕ) (zone group holder state cx lx hx cy l
 unfolding declaration.zone_declaration_of
 zone_declaration_sound greatest zone group holder state cx lx hx cy ly hy cz lz hz =
     then_any IsSoundDeclaration (declaration.state_of state) _ (λ on.
-    then_ok (IsWithin 1 32) IsSoundDeclaration (declaration.zone_of zone) _ (zone_sound zone) (λ z zone_range.
-    then_ok (IsWithin 1 32) IsSoundDeclaration (declaration.zone_of group) _ (zone_sound group) (λ g group_range.
+    then_ok (IsWithin 1 ZONE_LIMIT) IsSoundDeclaration (declaration.zone_of zone) _ (zone_sound zone) (λ z zone_range.
+    then_ok (IsWithin 1 ZONE_LIMIT) IsSoundDeclaration (declaration.zone_of group) _ (zone_sound group) (λ g group_range.
     then_any IsSoundDeclaration (declaration.owner_of greatest holder) _ (λ h.
     then_ok IsSoundSide IsSoundDeclaration (declaration.named_side_of cx lx hx) _ (side_sound cx lx hx) (λ x x_range.
     then_ok IsSoundSide IsSoundDeclaration (declaration.named_side_of cy ly hy) _ (side_sound cy ly hy) (λ y y_range.

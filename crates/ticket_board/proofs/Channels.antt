@@ -1,4 +1,5 @@
 -- The channels of a start: each stands once, and they are few.
+use Rattle.axis_sets.specs.declared.limits.TheConstants.{CHANNEL_LIMIT}
 use Rattle.std.proofs.Common.{Bool, List, ap, arith, eq-eqb, false, filter, length, ne_eqb, refl, suc, true, zero, ℕ, ◌≡◌, ◌+◌, ◌<◌, ◌≤◌, ◌==◌, [], ◌∷◌, if◌then◌else◌}
 use Rattle.std.specs.List.{range_with_len}
 use Rattle.sync_types.specs.Boards.{channel_numbers}
@@ -18,7 +19,7 @@ few_of P [] = omega arith
 few_of P (x ∷ xs) = let a = fewer (P x) x (filter P xs) in let b = few_of P xs in omega (arith, a, b)
 
 pub few_channels : (start : StartView) → length (channels_of start) < 18446744073709551616
-few_channels start = let a = few_of (has_channel start) channel_numbers in let b : length channel_numbers ≡ 8 = refl in omega (arith, a, b)
+few_channels start = let a = few_of (has_channel start) channel_numbers in let b : length channel_numbers ≡ CHANNEL_LIMIT = refl in omega (arith, a, b)
 
 less : (f : ℕ → ℕ) (b : Bool) (x : ℕ) (xs : List ℕ) → total f (if b then x ∷ xs else xs) ≤ f x + total f xs
 less f true x xs = omega arith
@@ -39,4 +40,4 @@ once_from n (suc k) c = dite (ℕ_discrete n c)
     (λ other. let a : one_if (n == c) ≡ 0 = ap one_if (ne_eqb n c other) in let b = once_from (n + 1) k c in omega (arith, a, b))
 
 pub each_once : (start : StartView) (c : ℕ) → total (λ (x : ℕ). one_if (x == c)) (channels_of start) ≤ 1
-each_once start c = let a = less_of (λ (x : ℕ). one_if (x == c)) (has_channel start) channel_numbers in let b = once_from 1 8 c in omega (arith, a, b)
+each_once start c = let a = less_of (λ (x : ℕ). one_if (x == c)) (has_channel start) channel_numbers in let b = once_from 1 CHANNEL_LIMIT c in omega (arith, a, b)

@@ -1,5 +1,6 @@
 -- What the channels of an accepted job do: in every run they know where their axes stand, move their own axes alone, and tell which
 -- of their zones are on.
+use Rattle.axis_sets.specs.declared.limits.TheConstants.{AXIS_LIMIT, ZONE_LIMIT, ZONE_PLACES}
 use Rattle.std.proofs.Common.{◌≡◌, ◌⊎◌, ◌∙◌, ℕ, ℤ, ◌≤◌, ◌<◌, ◌==◌, Bool, true, false, cond, inl, inr, List, [], ◌∷◌, ◌++◌, length, find, get_or, take, Contains, is_some, Option, None, Some, unwrap_or, All, zero-add, refl, sym, ap, subst, arith}
 use Rattle.std.proofs.lemmas.Bool.{eqb-true, eq-eqb}
 use Rattle.std.proofs.lemmas.List.{get_or_past}
@@ -53,21 +54,21 @@ le_or_lt : (a b : ℕ) → (a ≤ b) ⊎ (b < a)
 le_or_lt a b = grind arith
 
 -- an axis of the set is told
-told_at : (axes : List Bool) (at : ℕ → ℤ) (x : ℕ) → x < 16 → has axes x ≡ true → position_of (owned_at axes at) x ≡ Some (at x)
-told_at axes at x within on = get_or-map-range_with_len (λ (y : ℕ). cond (has axes y) (Some (at y)) None) 0 16 x x None within (zero-add x) ∙ rw on refl
+told_at : (axes : List Bool) (at : ℕ → ℤ) (x : ℕ) → x < AXIS_LIMIT → has axes x ≡ true → position_of (owned_at axes at) x ≡ Some (at x)
+told_at axes at x within on = get_or-map-range_with_len (λ (y : ℕ). cond (has axes y) (Some (at y)) None) 0 AXIS_LIMIT x x None within (zero-add x) ∙ rw on refl
 
 -- and no other
 untold_at : (axes : List Bool) (at : ℕ → ℤ) (x : ℕ) → has axes x ≡ false → position_of (owned_at axes at) x ≡ None
-untold_at axes at x off = by_place (le_or_lt 16 x)
+untold_at axes at x off = by_place (le_or_lt AXIS_LIMIT x)
   where
     row : ℕ → Option ℤ
     row y = cond (has axes y) (Some (at y)) None
 
-    by_place : (16 ≤ x) ⊎ (x < 16) → position_of (owned_at axes at) x ≡ None
+    by_place : (AXIS_LIMIT ≤ x) ⊎ (x < AXIS_LIMIT) → position_of (owned_at axes at) x ≡ None
     by_place (inl past) =
-        let long = length-map-range_with_len row 0 16 in
+        let long = length-map-range_with_len row 0 AXIS_LIMIT in
         get_or_past (owned_at axes at) x None (omega (arith, long, past))
-    by_place (inr within) = get_or-map-range_with_len row 0 16 x x None within (zero-add x) ∙ rw off refl
+    by_place (inr within) = get_or-map-range_with_len row 0 AXIS_LIMIT x x None within (zero-add x) ∙ rw off refl
 
 -- ---- axes that do not move
 
@@ -137,7 +138,7 @@ module _ (job : JobView) (sound : IsSoundJob job) (cs : List ℕ) (run : IsRunOf
     abbrev grants : List Grant
     grants = made ++ grant ∷ []
 
-    within_row : (x : ℕ) → has grant.axes x ≡ true → x < 16
+    within_row : (x : ℕ) → has grant.axes x ≡ true → x < AXIS_LIMIT
     within_row x on = has_within grant.axes x
         (subst IsGoodState runs ((good_stage job (first_stage (start_of job)) cs (good_beginning job sound)).board.states c)).axes on
 
@@ -196,7 +197,7 @@ module _ (job : JobView) (sound : IsSoundJob job) (cs : List ℕ) (run : IsRunOf
         (axes_of (movement_of item)) among)
         (items_by_grants grants) moves_among
 
-    lets_go : (x : ℕ) → x < 16 → owner_of (b.axis x) ≡ Some c → is_some (position_of (script_of job c grants).at x) ≡ true
+    lets_go : (x : ℕ) → x < AXIS_LIMIT → owner_of (b.axis x) ≡ Some c → is_some (position_of (script_of job c grants).at x) ≡ true
     lets_go x within own =
         let on : has grant.axes x ≡ true = owns_its_grant job cs c grant (sound, run) runs x within ∙ rw own (eq-eqb c c refl) in
         ap (λ (row : List (Option ℤ)). is_some (position_of row x)) (step_places job c made grant)
@@ -206,8 +207,8 @@ module _ (job : JobView) (sound : IsSoundJob job) (cs : List ℕ) (run : IsRunOf
         → has (script_of job c grants).on zone.zone ≡ on_after zone (b.is_on zone.zone) (items_by_grants grants)
     switched_on zone sides held =
         let told = grant_tells zone.zone sides.low_number sides.high_number (script_of job) (start_of job) (start_sound job sound) cs c grant runs held in
-        let high : zone.zone ≤ 32 = sides.high_number in
-        let row : length grant.on ≡ 33 = told.row in
+        let high : zone.zone ≤ ZONE_LIMIT = sides.high_number in
+        let row : length grant.on ≡ ZONE_PLACES = told.row in
         script_switches job c made grant zone.zone (omega (arith, high, row))
         ∙ ap (λ (on : Bool). switched_by zone.zone on (items_by_grants grants)) told.told
         ∙ switched_same zone (b.is_on zone.zone) (items_by_grants grants)

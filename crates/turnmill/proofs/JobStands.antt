@@ -1,5 +1,6 @@
 -- Where the axes of a channel stand in a run of a job, by its own grants and as the laws of all speeds see it: alike, of each axis
 -- that it owns.
+use Rattle.axis_sets.specs.declared.limits.TheConstants.{AXIS_LIMIT}
 use Rattle.std.proofs.Common.{◌≡◌, ◌∙◌, ℕ, ℤ, pos, ◌<◌, ◌==◌, ◌||◌, Bool, true, false, List, [], ◌∷◌, ◌++◌, append-nil, is_some, Option, None, Some, unwrap_or, refl, sym, ap, subst}
 use Rattle.axis_sets.specs.Positions.{position_of}
 use Rattle.axis_sets.specs.Sets.{has}
@@ -27,7 +28,7 @@ use Rattle.turnmill.specs.JobDoings.{doings_of}
 
 -- each axis of the last of these grants stands alike
 pub record StandAlike (job : JobView) (c : ℕ) (had : List Grant) : Type 0 where
-  pub alike : (x : ℕ) → x < 16 → was_owned had x ≡ true → laws.stands_before job c had x ≡ stands_before job (doings_of job) c had x
+  pub alike : (x : ℕ) → x < AXIS_LIMIT → was_owned had x ≡ true → laws.stands_before job c had x ≡ stands_before job (doings_of job) c had x
 
 -- ---- one grant more
 
@@ -46,7 +47,7 @@ was_had (Some position) had placed none = absurd cc
 module _ (job : JobView) (c : ℕ) (grant : Grant) where
   -- each axis of the grant is placed by it or was in the grant before
   abbrev IsPlaced : List Grant → Type 0
-  IsPlaced had = (x : ℕ) → x < 16 → has grant.axes x ≡ true → (is_some (position_of grant.at x) || was_owned had x) ≡ true
+  IsPlaced had = (x : ℕ) → x < AXIS_LIMIT → has grant.axes x ≡ true → (is_some (position_of grant.at x) || was_owned had x) ≡ true
 
   -- where the axis stands then, as the laws see it
   seen_next : (had : List Grant) (x : ℕ) → stands_before job (doings_of job) c (had ++ grant ∷ []) x ≡ unwrap_or (position_of grant.at x) (stands_after job (doings_of job) c had x)
@@ -56,7 +57,7 @@ module _ (job : JobView) (c : ℕ) (grant : Grant) where
   unfolding stands_after
   alike_after had x same = left_at_same (segment_after job c had).items (laws.stands_before job c had) (stands_before job (doings_of job) c had) x same
 
-  alike_next : (had : List Grant) → StandAlike job c had → IsPlaced had → (x : ℕ) → x < 16 → has grant.axes x ≡ true
+  alike_next : (had : List Grant) → StandAlike job c had → IsPlaced had → (x : ℕ) → x < AXIS_LIMIT → has grant.axes x ≡ true
       → laws.stands_before job c (had ++ grant ∷ []) x ≡ stands_before job (doings_of job) c (had ++ grant ∷ []) x
   alike_next [] a placed x within on =
       stands_first job c grant x

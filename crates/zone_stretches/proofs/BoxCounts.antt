@@ -7,7 +7,7 @@ use Rattle.std.proofs.lemmas.List.{drop-map, take-map, length-map}
 use Rattle.std.proofs.lemmas.List.Elements.{All-nil, All-cons, All-head, All-tail, All-append, All-map}
 use Rattle.std.proofs.lemmas.List.Sums.{sum_by-cons, sum_by-append}
 use mathlib.Core.Path.{fun_ext}
-use Rattle.axis_sets.specs.declared.limits.TheConstants.{CHANNEL_LIMIT}
+use Rattle.axis_sets.specs.declared.limits.TheConstants.{CHANNEL_LIMIT, CHANNEL_PLACES, ZONE_LIMIT}
 use Rattle.job_types.specs.Job.{JobView}
 use Rattle.job_types.specs.Zones.{zones_in_order}
 use Rattle.job_types.specs.declared.job.ZoneLine.{ZoneLine}
@@ -142,8 +142,8 @@ rest_of_items (x ∷ xs) (suc i) = rest_of_items xs i
 
 -- how many events and items the steps from a place on have
 record AreFewFrom (items : List (List Item)) (i : ℕ) (es : List EntryView) (os : List Occurrence) : Type 0 where
-  events : length os ≤ 9 * length es
-  cost : events_cost items os ≤ 9 * length es + sum_by length (drop i items)
+  events : length os ≤ CHANNEL_PLACES * length es
+  cost : events_cost items os ≤ CHANNEL_PLACES * length es + sum_by length (drop i items)
 
 events_few : (items : List (List Item)) (es : List EntryView) (b : Board) (i : ℕ) → AreEntries b es → All (λ e. length e.goes ≤ CHANNEL_LIMIT) es
     → AreFewFrom items i es (occurrences_from b i (moves_in es))
@@ -152,7 +152,7 @@ events_few items (e ∷ es) b i are few =
     let rest = events_few items es (after_step b e.channel e.step) (suc i) are.2 (All-tail (λ e. length e.goes ≤ CHANNEL_LIMIT) e es few) in
     let goings : List Going = goings_in_step b e.channel e.step in
     let same : length e.goes ≡ length goings = ap (λ (x : EntryView). length x.goes) are.1 ∙ length-map goings go_of in
-    let here : length e.goes ≤ 8 = All-head (λ e. length e.goes ≤ CHANNEL_LIMIT) e es few in
+    let here : length e.goes ≤ CHANNEL_LIMIT = All-head (λ e. length e.goes ≤ CHANNEL_LIMIT) e es few in
     let later : List Occurrence = occurrences_from (after_step b e.channel e.step) (suc i) (moves_in es) in
     let now : List Occurrence = map (going_on_of i goings) goings in
     record {
@@ -270,14 +270,14 @@ zip_few [] ys = omega arith
 zip_few (x ∷ xs) [] = omega arith
 zip_few (x ∷ xs) (y ∷ ys) = omega (arith, zip_few xs ys)
 
-times_few : (job : JobView) (stretches : StretchesView) → length (zone_times job stretches) ≤ 32
+times_few : (job : JobView) (stretches : StretchesView) → length (zone_times job stretches) ≤ ZONE_LIMIT
 unfolding zone_times zones_in_order
 times_few job stretches =
     omega (
       arith,
       length-map {B = ZoneTime} (zip (zones_in_order job) stretches.zones) (λ p. record { zone = p.0; stretches = p.1 }),
       zip_few (zones_in_order job) stretches.zones,
-      found_few (λ number. find (λ zone. zone.zone == number) job.zones) (range_with_len 1 32),
+      found_few (λ number. find (λ zone. zone.zone == number) job.zones) (range_with_len 1 ZONE_LIMIT),
     )
 
 -- pairs of few each are few
@@ -311,5 +311,5 @@ pairs_are_few before job start run size comes =
       squared (length times) (times_few job (all_stretches job (first_board start) run)),
     )
   where
-    squared : (n : ℕ) → n ≤ 32 → n * n ≤ 1024
+    squared : (n : ℕ) → n ≤ ZONE_LIMIT → n * n ≤ 1024
     squared n few = omega (arith, mul-le-mul few few)

@@ -1,4 +1,5 @@
 -- The events of a run in order: of which step each is, and which come later.
+use Rattle.axis_sets.specs.declared.limits.TheConstants.{CHANNEL_LIMIT}
 use Rattle.std.proofs.Common.{◌≡◌, ◌⊎◌, ◌∙◌, inl, inr, ℕ, zero, suc, ◌+◌, ◌*◌, ◌<◌, ◌≤◌, ◌==◌, ◌||◌, Bool, true, false, cond, List, [], ◌∷◌, ◌++◌, map, length, filter, Option, None, Some, All, refl, sym, ap, subst, arith}
 use Rattle.std.specs.Prelude.{⊤, is_some}
 use Rattle.std.specs.List.{range_with_len}
@@ -237,12 +238,12 @@ goings_once b starts once started =
     append_once (map (going_of_start b) starts) (map (going_at_once b) (goers_at_once b) ++ (all_takings (after_goes b)).goings)
     (mapped_once (going_of_start b) starts (λ c. refl) once)
     (append_once (map (going_at_once b) (goers_at_once b)) (all_takings (after_goes b)).goings
-    (mapped_once (going_at_once b) (goers_at_once b) (λ c. refl) (range_once (λ c. goes_at_once b (b.state c)) 8 1))
-    (takings_once 8 (after_goes b))
+    (mapped_once (going_at_once b) (goers_at_once b) (λ c. refl) (range_once (λ c. goes_at_once b (b.state c)) CHANNEL_LIMIT 1))
+    (takings_once CHANNEL_LIMIT (after_goes b))
     (λ g h left right same.
     let w = in_mapped (going_at_once b) g (goers_at_once b) left in
     let there : among (goers_at_once b) h.channel ≡ true = among_in (goers_at_once b) h.channel (subst (λ (k : ℕ). IsIn k (goers_at_once b)) (sym (ap (λ (k : Going). k.channel) w.1.1) ∙ same) w.1.0) in
-    let t = takings_take 8 (after_goes b) h right in
+    let t = takings_take CHANNEL_LIMIT (after_goes b) h right in
     let runs : waits_for_axes ((after_goes b).state h.channel) ≡ false = rw there refl in
     no_truth (waits_for_axes h.from) t.waits (ap waits_for_axes t.from ∙ runs)))
     (λ g h left right same.
@@ -255,7 +256,7 @@ goings_once b starts once started =
           let here : goes_at_once b (b.state h.channel) ≡ true = ap (λ (k : ℕ). goes_at_once b (b.state k)) (ap (λ (k : Going). k.channel) v.1.1) ∙ on in
           no_truth (goes_at_once b (b.state h.channel)) here (no_wait_goes b (b.state h.channel) none)
       | inr taker ↦
-          let t = takings_take 8 (after_goes b) h taker in
+          let t = takings_take CHANNEL_LIMIT (after_goes b) h taker in
           let from = all_go_from b starts h started (in_goings h right) in
           no_truth (waits_for_axes h.from) t.waits (no_wait_axes h.from (from.from ∙ none))
     ])

@@ -1,4 +1,5 @@
 -- Who holds a zone, event by event: who lets its axes go held it, and who takes them takes them from nobody.
+use Rattle.axis_sets.specs.declared.limits.TheConstants.{CHANNEL_LIMIT}
 use Rattle.std.proofs.Common.{◌≡◌, ◌∙◌, inl, inr, ℕ, zero, suc, ◌==◌, ◌||◌, Bool, true, false, cond, List, [], ◌∷◌, ◌++◌, map, Option, None, Some, refl, sym, ap, subst}
 use Rattle.std.specs.Prelude.{⊤}
 use Rattle.std.specs.List.{list_any}
@@ -271,7 +272,7 @@ goings_hands : (b : Board) (starts : List ℕ) (zone : ZoneLine) (i : ℕ) (all 
 goings_hands b starts zone i all zones for =
     let one = bare_hands zone (b.holder zone.zone) i all (going_of_start b) starts (λ c. refl) in
     let two = bare_hands zone (b.holder zone.zone) i all (going_at_once b) (goers_at_once b) (λ c. refl) in
-    let three = takings_hands 8 (after_goes b) zone i all (zones_goes b zones) for in
+    let three = takings_hands CHANNEL_LIMIT (after_goes b) zone i all (zones_goes b zones) for in
     let started : List Occurrence = map (going_on_of i all) (map (going_of_start b) starts) in
     let at_once : List Occurrence = map (going_on_of i all) (map (going_at_once b) (goers_at_once b)) in
     let takers : List Occurrence = map (going_on_of i all) (all_takings (after_goes b)).goings in

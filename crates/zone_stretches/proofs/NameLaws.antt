@@ -1,4 +1,5 @@
 -- Each event of a run has its lowest name.
+use Rattle.axis_sets.specs.declared.limits.TheConstants.{CHANNEL_LIMIT, CHANNEL_PLACES}
 use Rattle.std.proofs.Common.{◌≡◌, ◌⊎◌, ◌∙◌, inl, inr, ℕ, zero, suc, ◌+◌, ◌<◌, ◌≤◌, ◌==◌, ◌&&◌, ◌||◌, Bool, true, false, cond, List, [], ◌∷◌, ◌++◌, map, filter, Option, None, Some, All, refl, sym, ap, subst, arith}
 use Rattle.std.specs.Prelude.{IfSome, unwrap_or}
 use Rattle.std.specs.List.{range_with_len}
@@ -90,7 +91,7 @@ chain_hold P ps each (e ∷ es) c d path = ((each c e path.0).0, (chain_hold P p
 -- ---- they are channels of the machine
 
 abbrev IsWithin : ℕ → Type 0
-IsWithin c = (1 ≤ c) × (c < 9)
+IsWithin c = (1 ≤ c) × (c < CHANNEL_PLACES)
 
 pub in_range : (n a c : ℕ) → IsIn c (range_with_len a n) → (a ≤ c) × (c < a + n)
 in_range zero a c within = absurd within
@@ -115,8 +116,8 @@ marks_within b starts g within on = elim ((in_append g started (at_once ++ taker
     | inl goer ↦
         let w = in_mapped (going_at_once b) g (goers_at_once b) goer in
         let there = in_filter (λ c. goes_at_once b (b.state c)) channel_numbers w.0 w.1.0 in
-        subst IsWithin (sym (ap (λ (k : Going). k.channel) w.1.1)) (in_range 8 1 w.0 there.0)
-    | inr taker ↦ no_truth (at_marks g.from) on (axes_not_marks g.from (takings_take 8 (after_goes b) g taker).waits)
+        subst IsWithin (sym (ap (λ (k : Going). k.channel) w.1.1)) (in_range CHANNEL_LIMIT 1 w.0 there.0)
+    | inr taker ↦ no_truth (at_marks g.from) on (axes_not_marks g.from (takings_take CHANNEL_LIMIT (after_goes b) g taker).waits)
   ]
 ]
   where
@@ -200,7 +201,7 @@ low_among goings marks c going = by_first (first_of (filter together channel_num
             | inr chain ↦
                 let d_in = (linked_within k d chain.0 chain.1).1 in
                 let alike : labels (pairs_of goings) d ≡ labels (pairs_of goings) c = sym (chained_to (pairs_of goings) k d (inr chain)) ∙ eqb-true (labels (pairs_of goings) k) (labels (pairs_of goings) c) passes.1 in
-                first_least (λ x. among (channels_in goings) x && (labels (pairs_of goings) x == labels (pairs_of goings) c)) 8 1 k d is d_in.0 (omega (arith, d_in.1))
+                first_least (λ x. among (channels_in goings) x && (labels (pairs_of goings) x == labels (pairs_of goings) c)) CHANNEL_LIMIT 1 k d is d_in.0 (omega (arith, d_in.1))
                 (and_from (among (channels_in goings) d) (labels (pairs_of goings) d == labels (pairs_of goings) c) on (eq-eqb (labels (pairs_of goings) d) (labels (pairs_of goings) c) alike))
           ];
         }
@@ -213,7 +214,7 @@ low_among goings marks c going = by_first (first_of (filter together channel_num
             let c_in = (linked_within c d chain.0 chain.1).0 in
             no_truth (among (channels_in goings) c && (labels (pairs_of goings) c == labels (pairs_of goings) c))
             (and_from (among (channels_in goings) c) (labels (pairs_of goings) c == labels (pairs_of goings) c) going (eq-eqb (labels (pairs_of goings) c) (labels (pairs_of goings) c) refl))
-            (first_none (λ x. among (channels_in goings) x && (labels (pairs_of goings) x == labels (pairs_of goings) c)) 8 1 c is c_in.0 (omega (arith, c_in.1)))
+            (first_none (λ x. among (channels_in goings) x && (labels (pairs_of goings) x == labels (pairs_of goings) c)) CHANNEL_LIMIT 1 c is c_in.0 (omega (arith, c_in.1)))
       ];
     }
 

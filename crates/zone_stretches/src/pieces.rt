@@ -13,7 +13,7 @@ use arrayvec::ArrayVec;
 use job_types::{Job, Side, ZoneLine};
 use micro_units::Um;
 use path_geometry::Motion;
-use swept_boxes::{Box3, Ranges, pieces_of};
+use swept_boxes::{Box3, PIECE_LIMIT, Ranges, pieces_of};
 use sync_types::{Item, Run};
 
 /// What the channel of an entry did before it; nothing past the last entry.
@@ -92,7 +92,7 @@ fn boxes_of_pieces(
     zone: &ZoneLine,
     cover: &Box3,
     motion: &Motion,
-) -> ArrayVec<Box3, 80>
+) -> ArrayVec<Box3, PIECE_LIMIT>
     requires sound { IsSound motion.now }
     requires deep { depth ≤ DEPTH_LIMIT }
     ensures { result.items ≡ map (λ piece. piece_box margin zone.now.sides piece cover.now)
@@ -106,7 +106,7 @@ fn boxes_of_pieces(
 }
 
 /// One box.
-pub fn one_box(only: Box3) -> ArrayVec<Box3, 80>
+pub fn one_box(only: Box3) -> ArrayVec<Box3, PIECE_LIMIT>
     ensures { result.items ≡ only ∷ [] }
 {
     let mut boxes = ArrayVec::new();
@@ -122,7 +122,7 @@ pub fn boxes_in_pieces(
     zone: &ZoneLine,
     cover: &Box3,
     motion: Option<&Motion>,
-) -> ArrayVec<Box3, 80>
+) -> ArrayVec<Box3, PIECE_LIMIT>
     requires sound { IfSome (option_copied motion) IsSound }
     requires deep { depth ≤ DEPTH_LIMIT }
     ensures { result.items ≡ boxes_in_pieces margin depth zone.now.sides cover.now (option_copied motion.entry) }
@@ -142,7 +142,7 @@ pub fn boxes_by_pieces(
     zone: &ZoneLine,
     stretch: &Stretch,
     own: &ZoneBox,
-) -> ArrayVec<Box3, 80>
+) -> ArrayVec<Box3, PIECE_LIMIT>
     requires fit { All (All IsFit) run.now.items }
     requires deep { job.now.depth ≤ DEPTH_LIMIT }
     ensures { result.items ≡ piece_boxes job.now run.now

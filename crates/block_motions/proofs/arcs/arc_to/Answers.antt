@@ -1,3 +1,4 @@
+use Rattle.axis_sets.specs.declared.limits.TheConstants.{AXIS_LIMIT}
 use Rattle.std.proofs.Common.{◌≡◌, ◌≢◌, ◌∙◌, ℕ, ℤ, List, true, AllPairs, Result, Ok, Err, IfOk, sym, ap, subst}
 use Rattle.axis_sets.specs.Positions.{stands}
 use Rattle.block_motions.specs.Motions.{end_for, are_in_reach, are_own}
@@ -19,7 +20,7 @@ arc_given-requires-clause-ends c =
     let can : can_run c.args.sides.now c.move_axes-ends.result ≡ true = sym c.can_run.ensures ∙ c.if-not-can_run.false in
     record {
       once = subst (λ (es : List (ℕ × ℤ × ℤ)). AllPairs (λ e f. e.0 ≢ f.0) es) (sym c.move_axes-ends.ensures.ends)
-          (ends_once (stands c.args.at.now) (end_for (stands c.args.at.now) c.args.goals.now) 0 16);
+          (ends_once (stands c.args.at.now) (end_for (stands c.args.at.now) c.args.goals.now) 0 AXIS_LIMIT);
       in_range = in_range c.args.sides.now c.move_axes-ends.result can;
     }
 

@@ -1,3 +1,4 @@
+use Rattle.axis_sets.specs.declared.limits.TheConstants.{AXIS_LIMIT}
 use Rattle.std.proofs.Common.{◌≡◌, ◌∙◌, false, length, get_or, None, sym, arith}
 use Rattle.std.proofs.lemmas.List.{get_or_default}
 use Rattle.axis_sets.specs.Sets.{has}
@@ -8,7 +9,7 @@ use Rattle.block_motions.proofs.motions.are_in_reach.Goals as goal
 
 pub returns-then-not-is_in_reach : goal.returns-then-not-is_in_reach
 returns-then-not-is_in_reach c =
-    let long : length c.args.goals.now ≡ 16 = c.type_inv.goals in
+    let long : length c.args.goals.now ≡ AXIS_LIMIT = c.type_inv.goals in
     let here : get_or c.args.goals.now c.loop-index.index None ≡ c.index-goals-index.result =
     get_or_default c.args.goals.now c.loop-index.index None c.index-goals-index.result (omega arith) ∙ sym c.index-goals-index.is in
     let fails : model.is_in_reach (has c.args.owned c.loop-index.index) (stands c.args.at.now c.loop-index.index) (get_or c.args.goals.now c.loop-index.index None) ≡ false =

@@ -1,3 +1,4 @@
+use Rattle.axis_sets.specs.declared.limits.TheConstants.{AXIS_LIMIT}
 use Rattle.std.proofs.Common.{◌≡◌, ◌∙◌, Option, Bool, true, false, length, get_or, None, Some, is_some, sym, arith}
 use Rattle.std.proofs.lemmas.List.{get_or_default}
 use Rattle.axis_sets.specs.Sets.{has}
@@ -12,7 +13,7 @@ not_own owned (Some goal) not some = not
 
 pub returns-then-not-contains : goal.returns-then-not-contains
 returns-then-not-contains c =
-    let long : length c.args.goals.now ≡ 16 = c.type_inv.goals in
+    let long : length c.args.goals.now ≡ AXIS_LIMIT = c.type_inv.goals in
     let here : get_or c.args.goals.now c.loop-index.index None ≡ c.index-goals-index.result =
     get_or_default c.args.goals.now c.loop-index.index None c.index-goals-index.result (omega arith) ∙ sym c.index-goals-index.is in
     let some : is_some (get_or c.args.goals.now c.loop-index.index None) ≡ true = cc in

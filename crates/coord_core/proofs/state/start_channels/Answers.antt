@@ -1,3 +1,4 @@
+use Rattle.axis_sets.specs.declared.limits.TheConstants.{CHANNEL_PLACES}
 use Rattle.std.proofs.Common.{◌≡◌, true, false, List, ◌++◌, length, length-append, sym, ap, ◌∙◌, arith}
 use Rattle.axis_sets.specs.Sets.{has}
 use Rattle.coord_core.specs.Tables.{board_in}
@@ -21,7 +22,7 @@ loop-number-preserved c = elim c.if-contains.branch [
         omega (arith, simp length-append at (ap (λ (gs : List Go). length gs) w.push.ensures.items), c.loop-number.invariant.0),
         goes_more (going_of_start (board_in c.args.table.now c.args.channels.now)) (has c.args.named) c.loop-number.number _ c.loop-number.goes.items go c.loop-number-test.true on
             (ap (λ (g : Grant). record { channel = c.loop-number.number; grant = g }) (w.start_grant-grant.ensures c.args.channels.now)) c.loop-number.invariant.1
-            ∙ ap (λ (gs : List Go). gs ++ goes_of (going_of_start (board_in c.args.table.now c.args.channels.now)) (filter (has c.args.named) (range_with_len (c.loop-number.number + 1) (9 - (c.loop-number.number + 1))))) (sym w.push.ensures.items),
+            ∙ ap (λ (gs : List Go). gs ++ goes_of (going_of_start (board_in c.args.table.now c.args.channels.now)) (filter (has c.args.named) (range_with_len (c.loop-number.number + 1) (CHANNEL_PLACES - (c.loop-number.number + 1))))) (sym w.push.ensures.items),
         written_more c.args.channels.now c.loop-number.channels _ (has c.args.named) (λ d. Running (start_grant (board_in c.args.table.now c.args.channels.now) d)) c.loop-number.number _ on
             (w.running.ensures ∙ ap Running (w.start_grant-grant.ensures c.args.channels.now)) w.set_activity.ensures c.loop-number.invariant.2,
         written_above c.args.channels.now c.loop-number.channels _ c.loop-number.number _ w.set_activity.ensures c.loop-number.invariant.3,

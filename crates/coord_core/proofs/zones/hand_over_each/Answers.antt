@@ -5,4 +5,4 @@ use Rattle.coord_core.specs.Tables.{zone_handed}
 use Rattle.coord_core.proofs.zones.hand_over_each.Goals as goal
 
 pub loop-zone-preserved : goal.loop-zone-preserved
-loop-zone-preserved c = grind (arith, common_steps, map_over_more (zone_handed c.args.axes c.args.holder.now))
+loop-zone-preserved c = grind (arith, common_steps, map_over_more (zone_handed c.args.axes c.args.holder.now)) steps 16000000

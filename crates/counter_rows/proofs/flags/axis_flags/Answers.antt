@@ -1,3 +1,4 @@
+use Rattle.axis_sets.specs.declared.limits.TheConstants.{AXIS_LIMIT}
 use Rattle.std.proofs.Common.{◌≡◌, length, false, inl, inr, sym, ◌∙◌, arith}
 use Rattle.std.proofs.lemmas.Bool.{cases_lt}
 use Rattle.std.proofs.Math.ListN.{get_or-eq_default}
@@ -6,7 +7,7 @@ use Rattle.counter_rows.proofs.flags.axis_flags.Goals as goal
 pub returns-clause-members : goal.returns-clause-members
 returns-clause-members c =
     let low = c.loop-index-test.false in
-    let size : length c.args.set.now ≡ 16 = c.is_empty.ensures.size in
+    let size : length c.args.set.now ≡ AXIS_LIMIT = c.is_empty.ensures.size in
     let same = c.loop-index.invariant.size in
     c.sets_are_known_by_their_members.ensures.same c.loop-index.flags c.args.set.now same (λ k. elim (cases_lt k c.loop-index.index) [
       | inl below ↦ c.loop-index.invariant.done k below

@@ -1,3 +1,4 @@
+use Rattle.axis_sets.specs.declared.limits.TheConstants.{CHANNEL_PLACES}
 use Rattle.std.proofs.Common.{◌≡◌, ℕ, ◌<◌, ◌≤◌, true, List, length}
 use Rattle.std.specs.Prelude.{slice_index}
 use Rattle.order_clocks.specs.Partners.{PairsAllPartners, AreAllLinked}
@@ -7,7 +8,7 @@ use Rattle.step_deeds.specs.Holds.{are_partners}
 
 abbrev pub invariant-loop-a : goal.invariant-loop-a
 invariant-loop-a l = record {
-  size : length l.group ≡ 9;
-  joined : (e f : ℕ) → 1 ≤ e → e < l.a → 1 ≤ f → f < 9 → are_partners l.goes e f ≡ true → slice_index l.group e ≡ slice_index l.group f;
+  size : length l.group ≡ CHANNEL_PLACES;
+  joined : (e f : ℕ) → 1 ≤ e → e < l.a → 1 ≤ f → f < CHANNEL_PLACES → are_partners l.goes e f ≡ true → slice_index l.group e ≡ slice_index l.group f;
   linked : (ps : List Pair) → PairsAllPartners ps l.goes → AreAllLinked ps l.group;
 }

@@ -1,3 +1,4 @@
+use Rattle.order_clocks.specs.declared.events.TheConstants.{EVENT_PLACES}
 use Rattle.std.proofs.Common.{◌≡◌, length, None, slice_index_or, sym, ◌∙◌, rules, arith}
 use Rattle.std.proofs.lemmas.List.{get_or_default}
 use Rattle.order_clocks.proofs.PairLaws.{over_step, over_skip}
@@ -6,7 +7,7 @@ use Rattle.order_clocks.proofs.pairs.least_over.Goals.{in-None, in-Some}
 
 pub loop-k-preserved : goal.loop-k-preserved
 loop-k-preserved c =
-    let size : length c.args.events.now ≡ 10 = search rules in
+    let size : length c.args.events.now ≡ EVENT_PLACES = search rules in
     let low = c.loop-k-test.true in
     let back : slice_index_or c.args.events.now c.loop-k.k None ≡ slice_index_or c.args.events.now c.loop-k.k c.index-events-k.result = sym (get_or_default c.args.events.now c.loop-k.k c.index-events-k.result None (omega arith)) in
     elim c.match-events-k.branch [

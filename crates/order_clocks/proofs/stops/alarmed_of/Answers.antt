@@ -1,3 +1,4 @@
+use Rattle.axis_sets.specs.declared.limits.TheConstants.{CHANNEL_PLACES}
 use Rattle.std.proofs.Common.{rules, ◌≡◌, ℕ, ◌+◌, ◌-◌, ◌<◌, true, false, inl, inr, List, ◌∷◌, map, filter, drop, ap, ◌∙◌, arith}
 use Rattle.std.specs.List.{range_with_len}
 use Rattle.std.proofs.lemmas.Bool.{cases_Bool, cases_lt}
@@ -10,8 +11,8 @@ pub loop-c-preserved : goal.loop-c-preserved
 loop-c-preserved c =
     let n = c.loop-c.c in
     let i = c.loop-c.invariant in
-    let below : n < 9 = c.loop-c-test.true in
-    let later : List ℕ = filter (are_acted c.args.last.now) (range_with_len (n + 1) (9 - (n + 1))) in
+    let below : n < CHANNEL_PLACES = c.loop-c-test.true in
+    let later : List ℕ = filter (are_acted c.args.last.now) (range_with_len (n + 1) (CHANNEL_PLACES - (n + 1))) in
     record {
       size = search rules;
       from = omega arith;

@@ -1,3 +1,4 @@
+use Rattle.axis_sets.specs.declared.limits.TheConstants.{CHANNEL_LIMIT}
 use Rattle.std.proofs.Common.{◌≡◌, ◌∙◌, ◌++◌, ℕ, ◌-◌, List, ap, arith, Option}
 use Rattle.std.specs.List.{flat_map, range_with_len}
 use Rattle.run_assumptions.proofs.ListLaws.{channel_more, two}
@@ -24,5 +25,5 @@ pub returns : goal.returns
 unfolding assumptions_of
 returns c = λ lawful.
     let end = c.loop-number.auto.number-end (omega arith) in
-    let all : c.loop-number.number - 1 ≡ 8 = omega (arith, end) in
+    let all : c.loop-number.number - 1 ≡ CHANNEL_LIMIT = omega (arith, end) in
     c.loop-number.invariant lawful ∙ ap (λ (n : ℕ). flat_map (channel_assumptions c.args.job.now c.args.run.now) (range_with_len 1 n)) all

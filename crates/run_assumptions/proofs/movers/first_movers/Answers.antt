@@ -1,3 +1,4 @@
+use Rattle.axis_sets.specs.declared.limits.TheConstants.{AXIS_LIMIT}
 use Rattle.std.proofs.Common.{◌≡◌, ◌∙◌, ℕ, ◌++◌, ◌∷◌, [], map, ap, arith, Option}
 use Rattle.std.specs.List.{range_with_len}
 use Rattle.run_assumptions.proofs.ListLaws.{one_pushed}
@@ -12,5 +13,5 @@ loop-index-preserved c = one_pushed (λ axis. first_mover axis c.args.run.now) c
 pub returns : goal.returns
 unfolding movers_of
 returns c =
-    let all : c.loop-index.index ≡ 16 = omega arith in
+    let all : c.loop-index.index ≡ AXIS_LIMIT = omega arith in
     c.loop-index.invariant ∙ ap (λ (n : ℕ). map (λ axis. first_mover axis c.args.run.now) (range_with_len 0 n)) all

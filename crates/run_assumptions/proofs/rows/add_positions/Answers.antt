@@ -1,3 +1,4 @@
+use Rattle.axis_sets.specs.declared.limits.TheConstants.{AXIS_LIMIT}
 use Rattle.std.proofs.Common.{◌≡◌, ◌∙◌, ◌++◌, Option, None, ap, arith, slice_index_or}
 use Rattle.run_assumptions.proofs.ListLaws.{count_more}
 use Rattle.run_assumptions.proofs.RowLaws.{all_positions}
@@ -12,5 +13,5 @@ loop-index-preserved c =
 
 pub returns : goal.returns
 returns c =
-    let all : c.loop-index.index ≡ 16 = omega arith in
+    let all : c.loop-index.index ≡ AXIS_LIMIT = omega arith in
     all_positions c.args.channel c.args.firsts.now c.loop-index.index c.args.rows.now.items c.loop-index.rows.items all c.loop-index.invariant

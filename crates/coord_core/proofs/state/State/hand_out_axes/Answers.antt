@@ -1,3 +1,4 @@
+use Rattle.axis_sets.specs.declared.limits.TheConstants.{CHANNEL_LIMIT}
 use Rattle.std.proofs.Common.{◌≡◌, ℕ, List, ◌++◌, map, length, length-append, sym, ap, ◌∙◌, arith}
 use Rattle.coord_core.specs.Tables.{board_in}
 use Rattle.std.proofs.Common.{◌-◌}
@@ -14,7 +15,7 @@ take-requires-clause-can_take c = first_passes (can_take (board_in c.loop-turn.s
 pub returns-in-None-clause-goes : goal.returns-in-None-clause-goes
 returns-in-None-clause-goes c =
     sym (c.loop-turn.invariant.1
-    ∙ ap (λ (tk : Takings). c.loop-turn.goes.items ++ map go_of tk.goings) (no_more_takings (8 - c.loop-turn._turn) (board_in c.loop-turn.self.table c.loop-turn.self.channels) (sym c.next_taker.ensures ∙ c.in-None.is))
+    ∙ ap (λ (tk : Takings). c.loop-turn.goes.items ++ map go_of tk.goings) (no_more_takings (CHANNEL_LIMIT - c.loop-turn._turn) (board_in c.loop-turn.self.table c.loop-turn.self.channels) (sym c.next_taker.ensures ∙ c.in-None.is))
     ∙ nothing_more c.loop-turn.goes.items)
 
 pub loop-turn-preserved : goal.loop-turn-preserved
@@ -33,7 +34,7 @@ loop-turn-preserved c =
 
 pub returns-clause-goes : goal.returns-clause-goes
 returns-clause-goes c =
-    let over : 8 - c.loop-turn._turn ≡ 0 = omega arith in
+    let over : CHANNEL_LIMIT - c.loop-turn._turn ≡ 0 = omega arith in
     sym (c.loop-turn.invariant.1
     ∙ ap (λ (k : ℕ). c.loop-turn.goes.items ++ map go_of (takings k (board_in c.loop-turn.self.table c.loop-turn.self.channels)).goings) over
     ∙ nothing_more c.loop-turn.goes.items)

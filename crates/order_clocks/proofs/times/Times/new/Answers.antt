@@ -1,3 +1,4 @@
+use Rattle.axis_sets.specs.declared.limits.TheConstants.{AXIS_LIMIT, CHANNEL_PLACES, MARK_LIMIT}
 use Rattle.std.proofs.Common.{refl, replicate}
 use Rattle.order_clocks.proofs.CountingLaws.{zero_row, zero_at}
 use Rattle.order_clocks.proofs.times.Times.new.Goals as goal
@@ -6,6 +7,6 @@ pub returns : goal.returns
 returns c =
     let zero = c.zero-zero.result in
     record {
-      past = λ d x. zero_row 9 d x c.zero-zero.result c.zero-zero.ensures.counts;
-      last = λ k x. zero_at (record { past = replicate 9 zero; raised = replicate 10 (replicate 9 zero); freed = replicate 16 zero; started = replicate 9 zero; ended = replicate 9 zero }) zero c.zero-zero.ensures.counts refl refl refl refl k x;
+      past = λ d x. zero_row CHANNEL_PLACES d x c.zero-zero.result c.zero-zero.ensures.counts;
+      last = λ k x. zero_at (record { past = replicate CHANNEL_PLACES zero; raised = replicate MARK_LIMIT (replicate CHANNEL_PLACES zero); freed = replicate AXIS_LIMIT zero; started = replicate CHANNEL_PLACES zero; ended = replicate CHANNEL_PLACES zero }) zero c.zero-zero.ensures.counts refl refl refl refl k x;
     }

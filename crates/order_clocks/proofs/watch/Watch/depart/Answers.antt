@@ -1,3 +1,4 @@
+use Rattle.axis_sets.specs.declared.limits.TheConstants.{CHANNEL_PLACES}
 use Rattle.std.proofs.Common.{rules, ◌≡◌, ◌<◌, ◌==◌, false, [], None, inl, inr, length, sym, ◌∙◌, refl, arith}
 use Rattle.std.specs.Prelude.{is_some, slice_index_or}
 use Rattle.std.proofs.lemmas.Bool.{cases_Bool, eqb-true, eqb-false}
@@ -37,9 +38,9 @@ returns-clause-goes c = λ k.
     let i = c.loop-number.invariant in
     let low = c.loop-number-test.false in
     let high = c.loop-number.auto.number in
-    let last : c.loop-number.number ≡ 9 = search rules in
+    let last : c.loop-number.number ≡ CHANNEL_PLACES = search rules in
     let goers = c.goers_in-goers.ensures in
-    elim (cases_Bool (is_done 9 k)) [
+    elim (cases_Bool (is_done CHANNEL_PLACES k)) [
       | inl on ↦ i.gone k (rw last on)
       | inr off ↦ elim (out_of_done k off) [
         | inl zero ↦ rw (zero, i.none, is_absent c.args.goes.now c.goers_in-goers.result 0 goers.members goers.from) (record {})
@@ -51,13 +52,13 @@ returns-clause-goes c = λ k.
 
 pub returns-clause-holds : goal.returns-clause-holds
 returns-clause-holds c = λ k.
-    let last : c.loop-number.number ≡ 9 = search rules in
+    let last : c.loop-number.number ≡ CHANNEL_PLACES = search rules in
     let goers = c.goers_in-goers.ensures in
     c.loop-number.invariant.holds k ∙ rw (last, all_found c.args.goes.now c.goers_in-goers.result k goers.members goers.from goers.size) refl
 
 pub returns-clause-marks : goal.returns-clause-marks
 returns-clause-marks c = λ k m.
-    let last : c.loop-number.number ≡ 9 = search rules in
+    let last : c.loop-number.number ≡ CHANNEL_PLACES = search rules in
     let goers = c.goers_in-goers.ensures in
     c.loop-number.invariant.marks k m ∙ rw (last, all_found c.args.goes.now c.goers_in-goers.result k goers.members goers.from goers.size) refl
 

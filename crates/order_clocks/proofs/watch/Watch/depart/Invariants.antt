@@ -1,3 +1,4 @@
+use Rattle.axis_sets.specs.declared.limits.TheConstants.{CHANNEL_PLACES}
 use Rattle.std.proofs.Common.{◌≡◌, ℕ, ◌≤◌, ◌&&◌, not, true, [], None, length, if◌then◌else◌}
 use Rattle.std.specs.Prelude.{is_some, slice_index_or}
 use Rattle.axis_sets.specs.Sets.{has}
@@ -8,7 +9,7 @@ use Rattle.step_deeds.specs.Holds.{lowers_at}
 
 abbrev pub invariant-loop-number : goal.invariant-loop-number
 invariant-loop-number l = record {
-  size : length l.gone ≡ 9;
+  size : length l.gone ≡ CHANNEL_PLACES;
   from : 1 ≤ l.number;
   gone : (c : ℕ) → is_done l.number c ≡ true → IsGone (slice_index_or l.gone c None) (slice_index_or l.initial.self.holds c None) (go_in l.goes c);
   none : slice_index_or l.gone 0 None ≡ None;

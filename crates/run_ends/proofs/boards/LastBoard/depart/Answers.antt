@@ -1,3 +1,4 @@
+use Rattle.axis_sets.specs.declared.limits.TheConstants.{CHANNEL_LIMIT}
 use Rattle.std.proofs.Common.{◌≡◌, ◌∙◌, rules, ℕ, ◌+◌, ◌<◌, ◌==◌, ◌&&◌, not, Option, None, [], inl, inr, ap, sym, refl, arith, add-one, if◌then◌else◌, slice_index_or}
 use Rattle.std.proofs.lemmas.Bool.{cases_Bool, eqb-true, eqb-false}
 use Rattle.axis_sets.specs.Sets.{has}
@@ -50,5 +51,5 @@ returns-clause-holds c = λ k from below. c.loop-place.invariant.holds_done k fr
 
 pub returns-clause-owners : goal.returns-clause-owners
 returns-clause-owners c = λ x low.
-    let last : c.loop-place.place ≡ 8 = search rules in
+    let last : c.loop-place.place ≡ CHANNEL_LIMIT = search rules in
     c.loop-place.invariant.owners x low ∙ rw last refl
