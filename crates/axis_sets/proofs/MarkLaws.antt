@@ -13,9 +13,12 @@ has_low (x ∷ low) high (suc m) below = has_low low high m (omega arith)
 
 -- a place of the second
 has_high : (low high : List Bool) (m : ℕ) → length low ≤ m → has (low ++ high) m ≡ has high (m - length low)
-has_high [] high m past = refl
+has_high [] high m past = let same : m ≡ m - 0 = omega arith in ap (has high) same
 has_high (x ∷ low) high zero past = absurd (omega arith)
-has_high (x ∷ low) high (suc m) past = has_high low high m (omega arith)
+has_high (x ∷ low) high (suc m) past =
+    let same : m - length low ≡ suc m - suc (length low) = omega arith in
+    let rest : has (low ++ high) m ≡ has high (m - length low) = has_high low high m (omega arith) in
+    rest ∙ ap (λ (k : ℕ). has high k) same
 
 pub low_has : (n : ℕ) (low high : List Bool) → length low ≡ n → (m : ℕ) → m < n → has (low ++ high) m ≡ has low m
 low_has n low high size m below = has_low low high m (omega arith)
@@ -31,6 +34,18 @@ halves n low high size f one two m = elim (cases_lt m n) [
   | inr past ↦ high_has n low high size m past ∙ two m past
 ]
 
+-- places from a half on are the same where they are the same in it
+shifted : (n m mark : ℕ) → n ≤ m → n ≤ mark → (m - n == mark - n) ≡ (m == mark)
+shifted n m mark one two = elim (cases_eq m mark) [
+  | inl here ↦ eq-eqb (m - n) (mark - n) (omega arith) ∙ sym (eq-eqb m mark here)
+  | inr other ↦ ne_eqb (m - n) (mark - n) (λ e. other (omega arith)) ∙ sym (ne_eqb m mark other)
+]
+
+-- what is kept and is not this mark stays
+stays : (b : Bool) → b ≡ (b && true)
+stays true = refl
+stays false = refl
+
 -- no mark in either half
 pub empty_halves : (n : ℕ) (low high : List Bool) → length low ≡ n → IsEmpty low → IsEmpty high → IsEmpty (low ++ high)
 empty_halves n low high size one two = halves n low high size (λ m. false) (λ m below. one m) (λ m past. two (m - n))
@@ -41,7 +56,8 @@ halves_empty n low high size other none = (
     | inl below ↦ sym (low_has n low high size m below) ∙ none m
     | inr past ↦ past_has low m (omega arith)
   ]),
-  (λ m. let there : n + m - n ≡ m = omega arith in ap (has high) (sym there) ∙ sym (high_has n low high size (n + m) (omega arith)) ∙ none (n + m)))
+  (λ m. let there : n + m - n ≡ m = omega arith in ap (has high) (sym there) ∙ sym (high_has n low high size (n + m) (omega arith)) ∙ none (n + m)),
+)
   where
     past_has : (s : List Bool) (m : ℕ) → length s ≤ m → has s m ≡ false
     past_has [] m past = refl
@@ -62,23 +78,12 @@ with_high n mark low high new size past each = halves n low new size (λ m. (m =
     (λ m below. let other : (m == mark) ≡ false = ne_eqb m mark (λ e. omega arith) in rw other (sym (low_has n low high size m below)))
     (λ m from. each (m - n) ∙ rw (shifted n m mark from past, high_has n low high size m from) refl)
 
--- places from a half on are the same where they are the same in it
-shifted : (n m mark : ℕ) → n ≤ m → n ≤ mark → (m - n == mark - n) ≡ (m == mark)
-shifted n m mark one two = elim (cases_eq m mark) [
-  | inl here ↦ eq-eqb (m - n) (mark - n) (omega arith) ∙ sym (eq-eqb m mark here)
-  | inr other ↦ ne_eqb (m - n) (mark - n) (λ e. other (omega arith)) ∙ sym (ne_eqb m mark other)
-]
-
 -- a mark of the first half is taken out
 pub without_low : (n mark : ℕ) (low new high : List Bool) → length low ≡ n → length new ≡ n → mark < n → ((m : ℕ) → has new m ≡ (has low m && not (m == mark)))
     → (m : ℕ) → has (new ++ high) m ≡ (has (low ++ high) m && not (m == mark))
 without_low n mark low new high size same within each = halves n new high same (λ m. has (low ++ high) m && not (m == mark))
     (λ m below. each m ∙ ap (λ (b : Bool). b && not (m == mark)) (sym (low_has n low high size m below)))
     (λ m past. let other : (m == mark) ≡ false = ne_eqb m mark (λ e. omega arith) in rw other (stays (has high (m - n)) ∙ ap (λ (b : Bool). b && true) (sym (high_has n low high size m past))))
-
-stays : (b : Bool) → b ≡ (b && true)
-stays true = refl
-stays false = refl
 
 -- a mark of the second
 pub without_high : (n mark : ℕ) (low high new : List Bool) → length low ≡ n → n ≤ mark → ((m : ℕ) → has new m ≡ (has high m && not (m == mark - n)))

@@ -28,8 +28,8 @@ impl Model for MarkSet {
     ghost inverse = { λ set. record { low = take MARK_HALF set; high = drop MARK_HALF set } };
 
     ghost inverse_ok = { λ s h i. record {
-      low = front_half MARK_HALF s.low s.high h.0;
-      high = back_half MARK_HALF s.low s.high h.0;
+      low = front_half MARK_HALF s.low s.high h.0 i;
+      high = back_half MARK_HALF s.low s.high h.0 i;
     } };
 }
 

@@ -230,13 +230,13 @@ fn with_member<I: Member<N>, const N: usize>(set: Set<I, N>, member: I) -> Set<I
 }
 
 /// The set with a mark more.
-fn with_mark(marks: MarkSet, mark: u8) -> MarkSet
-    requires below { mark < MARK_LIMIT }
-    requires size { length marks ≡ MARK_LIMIT }
-    ensures value { result ≡ slice_set marks mark true }
+fn with_mark(set: MarkSet, mark: u8) -> MarkSet
+    requires stands { mark < MARK_LIMIT }
+    requires size { length set ≡ MARK_LIMIT }
+    ensures value { result ≡ slice_set set mark true }
     ensures size { length result ≡ MARK_LIMIT }
 {
-    marks.with(mark)
+    set.with(mark)
 }
 
 /// The marks of these arguments.
