@@ -97,7 +97,7 @@ module _ (job : JobView) (s : SurroundingsView) (c : Channel) (k : StateView) (s
       ∙ ap (λ (ps : List ℤ). request_in (setting_after s c.past) (parameter_in ps) statement) keeps.parameters
     where
       setting_is : setting_after s c.past ≡ setting_in job k.channel k.slots k.axes
-      setting_is = rw (set.channel, set.channels, set.programs, set.axes, set.zones, keeps.slots, keeps.axes) refl
+      setting_is = rw (set.version, set.channel, set.channels, set.programs, set.axes, set.zones, keeps.slots, keeps.axes) refl
 
 -- where a block leads, in the job of the setting
 pub followed_there : (s : SurroundingsView) (skip : Bool) (programs : List (List ℕ × ProgramView)) → s.skip ≡ skip → s.programs ≡ programs

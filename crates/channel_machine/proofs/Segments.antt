@@ -85,6 +85,7 @@ module _ (s : SurroundingsView) (c : Channel) (mid after : List Item) (kept late
 -- a setting is one of the job for a channel, however far that has come
 pub setting_kept : (job : JobView) (s : SurroundingsView) (k later : StateView) → IsSettingIn job s k → later.channel ≡ k.channel → IsSettingIn job s later
 setting_kept job s k later set same = record {
+  version = set.version;
   channel = set.channel ∙ sym same;
   channels = set.channels;
   programs = set.programs;

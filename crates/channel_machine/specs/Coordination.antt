@@ -6,6 +6,7 @@ use Rattle.axis_sets.specs.declared.limits.TheConstants.{AXIS_LIMIT}
 use Rattle.coordination_words.specs.Requests.{request_of}
 use Rattle.coordination_words.specs.Settings.{SettingView}
 use Rattle.coordination_words.specs.declared.asked.Request.{Request}
+use Rattle.job_lines.specs.Extent.{extent_of}
 use Rattle.job_types.specs.Axes.{axis_named, is_of}
 use Rattle.job_types.specs.Job.{JobView, ProgramView}
 use Rattle.job_types.specs.Zones.{has_axis}
@@ -44,9 +45,10 @@ is_held channel axes zone = if is_carried zone then has_all_of axes zone else is
 unfoldable pub holds_zone : ℕ → List ZoneLine → List Bool → ℕ → Bool
 holds_zone channel zones axes number = list_any (λ zone. (zone.zone == number) && is_held channel axes zone) zones
 
--- what a block of coordination finds
-abbrev pub setting_with : List ChannelLine → List (List ℕ × ProgramView) → List AxisLine → List ZoneLine → ℕ → List (Option ℕ) → List Bool → SettingView
-setting_with channels programs axes zones channel slots owned = record {
+-- what a block of coordination finds in a job of this version
+abbrev pub setting_with : ℕ → List ChannelLine → List (List ℕ × ProgramView) → List AxisLine → List ZoneLine → ℕ → List (Option ℕ) → List Bool → SettingView
+setting_with version channels programs axes zones channel slots owned = record {
+  marks = (extent_of version).marks;
   channel = channel;
   has_channel = has_channel channels;
   names = map (λ p. p.0) programs;
@@ -59,7 +61,7 @@ setting_with channels programs axes zones channel slots owned = record {
 
 -- the same in a job
 abbrev pub setting_in : JobView → ℕ → List (Option ℕ) → List Bool → SettingView
-setting_in job = setting_with job.channels job.programs job.axes job.zones
+setting_in job = setting_with job.version job.channels job.programs job.axes job.zones
 
 -- what a block asks for: nothing, where it is none of coordination
 unfoldable pub request_in : SettingView → (ℕ → ℤ) → Statement → Result (Option Request) ℕ

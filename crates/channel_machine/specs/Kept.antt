@@ -43,6 +43,7 @@ pub record StateView : Type 0 where
 
 -- the setting is one of this job, for the channel of which this is kept
 pub record IsSettingIn (job : JobView) (setting : SurroundingsView) (kept : StateView) : Type 0 where
+  pub version : setting.version ≡ job.version
   pub channel : setting.channel ≡ kept.channel
   pub channels : setting.channels ≡ job.channels
   pub programs : setting.programs ≡ job.programs

@@ -39,8 +39,9 @@ use Rattle.channel_machine.specs.declared.limits.TheConstants.{BLOCK_LIMIT}
 
 -- ---- what a channel runs by
 
--- the channel; the CHANNEL lines, the programs, the AXIS lines and the ZONE lines of the job, the axes in the channel's slots X, Y and Z, the settable offset of each slot under each word of its group, whether blocks with '/' are passed over, and what the channel was granted at its start
+-- the version of the job list; the channel; the CHANNEL lines, the programs, the AXIS lines and the ZONE lines of the job, the axes in the channel's slots X, Y and Z, the settable offset of each slot under each word of its group, whether blocks with '/' are passed over, and what the channel was granted at its start
 pub record SurroundingsView : Type 0 where
+  pub version : ℕ
   pub channel : ℕ
   pub channels : List ChannelLine
   pub programs : List (List ℕ × ProgramView)
@@ -54,6 +55,7 @@ pub record SurroundingsView : Type 0 where
 -- what a channel of a job runs by
 abbrev pub surroundings_of : JobView → ℕ → Grant → SurroundingsView
 surroundings_of job channel grant = record {
+  version = job.version;
   channel = channel;
   channels = job.channels;
   programs = job.programs;
@@ -199,7 +201,7 @@ found_after setting past = record {
 
 -- what a block of coordination finds
 abbrev pub setting_after : SurroundingsView → List Deed → SettingView
-setting_after setting past = setting_with setting.channels setting.programs setting.axes setting.zones setting.channel setting.slots (grant_after setting past).axes
+setting_after setting past = setting_with setting.version setting.channels setting.programs setting.axes setting.zones setting.channel setting.slots (grant_after setting past).axes
 
 -- a block with its line, executed after these deeds: its arguments are read first, where it is one of coordination
 abbrev pub executed_block : SurroundingsView → List Deed → Place → ℕ × BlockView → Result Executed ℕ

@@ -12,6 +12,7 @@ ghost use Rattle.job_lines.specs.declared.limits.TheConstants.{PROGRAM_LIMIT};
 use axis_sets::{AXIS_LIMIT, AxisId, AxisSet, ChannelId, ZoneId};
 use block_effects::{ChannelAxes, Parameters};
 use coordination_words::{Request, Setting, request_of};
+use job_lines::Extent;
 use job_types::{ChannelLine, Job, ZoneLine, axis_named};
 use nc_blocks::{NameText, Stmt};
 
@@ -135,6 +136,11 @@ fn holds_zone(channel: ChannelId, zones: &[ZoneLine], axes: AxisSet, number: Zon
 
 impl<'a> Setting for Coordination<'a> {
     ghost setting = { λ c. model.setting_in c.job.now c.channel c.axes.slots c.axes.owned };
+
+    fn mark_count(&self) -> usize {
+        let job = self.job;
+        Extent::of(job.version).marks
+    }
 
     fn channel(&self) -> ChannelId {
         self.channel

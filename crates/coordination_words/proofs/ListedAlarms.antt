@@ -144,10 +144,10 @@ split : IsAlarmCode 31
 unfolding IsAlarmCode alarm_codes
 split = refl
 
-mark_listed : (parameters : ℕ → ℤ) (operand : OperandView) → IsListed (mark_in parameters operand)
-mark_listed parameters operand =
-    bind_listed (operand_value parameters 25 operand) (λ value. or_alarm 25 (whole_below MARK_LIMIT value)) (operand_listed parameters 25 no_mark operand)
-    (λ value. or_listed 25 no_mark (whole_below MARK_LIMIT value))
+mark_listed : (setting : SettingView) (parameters : ℕ → ℤ) (operand : OperandView) → IsListed (mark_in setting parameters operand)
+mark_listed setting parameters operand =
+    bind_listed (operand_value parameters 25 operand) (λ value. or_alarm 25 (whole_below setting.marks value)) (operand_listed parameters 25 no_mark operand)
+    (λ value. or_listed 25 no_mark (whole_below setting.marks value))
 
 state_of_listed : (value : ℤ) → IsListed (state_of value)
 unfolding state_of
@@ -193,9 +193,9 @@ module _ (setting : SettingView) (parameters : ℕ → ℤ) where
   program_listed (Value tree) = no_program
   program_listed (AxisName name) = no_program
 
-  marks_listed : (operands : List OperandView) → IsListed (marks_in parameters operands)
+  marks_listed : (operands : List OperandView) → IsListed (marks_in setting parameters operands)
   unfolding marks_in
-  marks_listed operands = set_listed (mark_in parameters) (mark_listed parameters) (replicate MARK_LIMIT false) operands
+  marks_listed operands = set_listed (mark_in setting parameters) (mark_listed setting parameters) (replicate MARK_LIMIT false) operands
 
   channels_listed : (operands : List OperandView) → IsListed (channels_in setting parameters operands)
   unfolding channels_in
@@ -209,8 +209,8 @@ module _ (setting : SettingView) (parameters : ℕ → ℤ) where
 
   meeting_listed : (operands : List OperandView) → IsListed (meeting setting parameters operands)
   meeting_listed operands =
-      bind_listed (first_in (mark_in parameters) 25 operands) (λ mark. channels_in setting parameters (drop 1 operands) >>= λ named. Ok (Act (WaitM mark (without_itself setting named))))
-      (first_listed (mark_in parameters) (mark_listed parameters) 25 no_mark operands)
+      bind_listed (first_in (mark_in setting parameters) 25 operands) (λ mark. channels_in setting parameters (drop 1 operands) >>= λ named. Ok (Act (WaitM mark (without_itself setting named))))
+      (first_listed (mark_in setting parameters) (mark_listed setting parameters) 25 no_mark operands)
       (λ mark. bind_listed (channels_in setting parameters (drop 1 operands)) (λ named. Ok (Act (WaitM mark (without_itself setting named)))) (channels_listed (drop 1 operands)) (λ named. tt))
 
   selection_listed : (operands : List OperandView) → IsListed (selection setting parameters operands)
@@ -248,8 +248,8 @@ module _ (setting : SettingView) (parameters : ℕ → ℤ) where
   unfolding request_of
   request_listed word.WaitM operands = meeting_listed operands
   request_listed word.WaitMC operands = meeting_listed operands
-  request_listed word.SetM operands = bind_listed (marks_in parameters operands) (λ marks. Ok (Act (SetM marks))) (marks_listed operands) (λ marks. tt)
-  request_listed word.ClearM operands = bind_listed (marks_in parameters operands) (λ marks. Ok (Act (ClearM marks))) (marks_listed operands) (λ marks. tt)
+  request_listed word.SetM operands = bind_listed (marks_in setting parameters operands) (λ marks. Ok (Act (SetM marks))) (marks_listed operands) (λ marks. tt)
+  request_listed word.ClearM operands = bind_listed (marks_in setting parameters operands) (λ marks. Ok (Act (ClearM marks))) (marks_listed operands) (λ marks. tt)
   request_listed word.Init operands = selection_listed operands
   request_listed word.Start operands = bind_listed (channels_in setting parameters operands) (λ named. Ok (Act (Start named))) (channels_listed operands) (λ named. tt)
   request_listed word.WaitE operands = bind_listed (channels_in setting parameters operands) (λ named. Ok (Act (WaitE named))) (channels_listed operands) (λ named. tt)

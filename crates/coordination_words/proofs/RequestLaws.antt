@@ -1,5 +1,5 @@
 -- What a block asks of the other channels is of the job, and a zone that is switched is held.
-use Rattle.std.proofs.Common.{◌≡◌, ◌≢◌, ℕ, ◌*◌, ◌<◌, ◌%◌, ◌/◌, ◌==◌, ◌&&◌, ◌||◌, nat_lt, nat_le, ℤ, pos, negsuc, Bool, true, false, not, cond, List, [], ◌∷◌, length, drop, replicate, slice_set, get_or-set_same, Option, None, Some, Result, Ok, Err, refl, sym, ap, subst, ◌∙◌, arith}
+use Rattle.std.proofs.Common.{◌≡◌, ◌≢◌, ℕ, ◌*◌, ◌<◌, ◌≤◌, ◌%◌, ◌/◌, ◌==◌, ◌&&◌, ◌||◌, nat_lt, nat_le, ℤ, pos, negsuc, Bool, true, false, not, cond, List, [], ◌∷◌, length, drop, replicate, slice_set, get_or-set_same, Option, None, Some, Result, Ok, Err, refl, sym, ap, subst, ◌∙◌, arith}
 use Rattle.std.specs.List.{list_all}
 use Rattle.std.specs.Str.{bytes_eq}
 use Rattle.std.proofs.lemmas.List.Quantifiers.{position-Some}
@@ -77,10 +77,10 @@ below_limit limit (pos k) n is = by_tests (k % 1000000 == 0) (nat_lt k (limit * 
         never : (let o : Option ℕ = None in o) ≡ Some n → ⊥
         never h = cc
 
-mark_below : (parameters : ℕ → ℤ) (operand : OperandView) (n : ℕ) → mark_in parameters operand ≡ Ok n → n < MARK_LIMIT
-mark_below parameters operand n is =
-    let value = from_bind (operand_value parameters 25 operand) (λ value. or_alarm 25 (whole_below MARK_LIMIT value)) n is in
-    below_limit MARK_LIMIT value.0 n (found_is 25 (whole_below MARK_LIMIT value.0) n value.2)
+mark_below : (setting : SettingView) (parameters : ℕ → ℤ) (operand : OperandView) (n : ℕ) → mark_in setting parameters operand ≡ Ok n → n < setting.marks
+mark_below setting parameters operand n is =
+    let value = from_bind (operand_value parameters 25 operand) (λ value. or_alarm 25 (whole_below setting.marks value)) n is in
+    below_limit setting.marks value.0 n (found_is 25 (whole_below setting.marks value.0) n value.2)
 
 -- what the first argument stands for passes where each does
 first_is : {A : Type 0} (P : A → Type 0) (value_in : OperandView → Result A ℕ) → ((operand : OperandView) (x : A) → value_in operand ≡ Ok x → P x) → (code : ℕ)
@@ -165,9 +165,9 @@ module _ (setting : SettingView) (parameters : ℕ → ℤ) where
   abbrev IsSound : Action → Type 0
   IsSound action = IsOfTheJob setting action
 
-  waiting_sound : (mark : ℕ) (named : List Bool) → mark < MARK_LIMIT → ((m : ℕ) → has named m ≡ true → setting.has_channel m ≡ true) → IsSound (WaitM mark (without_itself setting named))
+  waiting_sound : (mark : ℕ) (named : List Bool) → mark < setting.marks → ((m : ℕ) → has named m ≡ true → setting.has_channel m ≡ true) → IsSound (WaitM mark (without_itself setting named))
   waiting_sound mark named below each = record {
-    marks = ap not (lt-ltb mark MARK_LIMIT below);
+    marks = λ few. ap not (lt-ltb mark MARK_LIMIT (omega (arith, below, few)));
     channels = list_all-members_of (without_itself setting named) setting.has_channel (λ m member. each m (less_has named setting.channel m member));
     itself = less_itself named setting.channel;
     program = tt;
@@ -179,14 +179,14 @@ module _ (setting : SettingView) (parameters : ℕ → ℤ) where
   }
 
   setting_sound : (marks : List Bool) → IsSound (SetM marks)
-  setting_sound marks = record { marks = refl; channels = refl; itself = refl; program = tt; axes = λ test all. refl; own = refl; zones = none_split setting.zones; no_alarm = refl; no_end = λ e. cc }
+  setting_sound marks = record { marks = λ few. refl; channels = refl; itself = refl; program = tt; axes = λ test all. refl; own = refl; zones = none_split setting.zones; no_alarm = refl; no_end = λ e. cc }
 
   clearing_sound : (marks : List Bool) → IsSound (ClearM marks)
-  clearing_sound marks = record { marks = refl; channels = refl; itself = refl; program = tt; axes = λ test all. refl; own = refl; zones = none_split setting.zones; no_alarm = refl; no_end = λ e. cc }
+  clearing_sound marks = record { marks = λ few. refl; channels = refl; itself = refl; program = tt; axes = λ test all. refl; own = refl; zones = none_split setting.zones; no_alarm = refl; no_end = λ e. cc }
 
   selecting_sound : (channel program : ℕ) → setting.has_channel channel ≡ true → program < length setting.names → IsSound (Init channel program)
   selecting_sound channel program has_it within = record {
-    marks = refl;
+    marks = λ few. refl;
     channels = rw has_it refl;
     itself = refl;
     program = within;
@@ -199,7 +199,7 @@ module _ (setting : SettingView) (parameters : ℕ → ℤ) where
 
   starting_sound : (named : List Bool) → ((m : ℕ) → has named m ≡ true → setting.has_channel m ≡ true) → IsSound (Start named)
   starting_sound named each = record {
-    marks = refl;
+    marks = λ few. refl;
     channels = list_all-members_of named setting.has_channel each;
     itself = refl;
     program = tt;
@@ -212,7 +212,7 @@ module _ (setting : SettingView) (parameters : ℕ → ℤ) where
 
   awaiting_sound : (named : List Bool) → ((m : ℕ) → has named m ≡ true → setting.has_channel m ≡ true) → IsSound (WaitE named)
   awaiting_sound named each = record {
-    marks = refl;
+    marks = λ few. refl;
     channels = list_all-members_of named setting.has_channel each;
     itself = refl;
     program = tt;
@@ -225,7 +225,7 @@ module _ (setting : SettingView) (parameters : ℕ → ℤ) where
 
   releasing_sound : (operands : List OperandView) (axes : List Bool) → axes_in setting operands ≡ Ok axes → owns_all setting axes ≡ true → leaves_zones_whole setting axes ≡ true → IsSound (Release axes)
   releasing_sound operands axes found own whole = record {
-    marks = refl;
+    marks = λ few. refl;
     channels = refl;
     itself = refl;
     program = tt;
@@ -238,7 +238,7 @@ module _ (setting : SettingView) (parameters : ℕ → ℤ) where
 
   taking_sound : (operands : List OperandView) (axes : List Bool) → axes_in setting operands ≡ Ok axes → leaves_zones_whole setting axes ≡ true → IsSound (Get axes)
   taking_sound operands axes found whole = record {
-    marks = refl;
+    marks = λ few. refl;
     channels = refl;
     itself = refl;
     program = tt;
@@ -271,19 +271,19 @@ module _ (setting : SettingView) (parameters : ℕ → ℤ) where
   module _ (which : CoordWord) (other : which ≢ word.CProt) (operands : List OperandView) (request : Request) where
     meeting_asks : meeting setting parameters operands ≡ Ok request → Answers which request
     meeting_asks is =
-        let mark = from_bind (first_in (mark_in parameters) 25 operands) (λ mark. channels_in setting parameters (drop 1 operands) >>= λ named. Ok (Act (WaitM mark (without_itself setting named)))) request is in
+        let mark = from_bind (first_in (mark_in setting parameters) 25 operands) (λ mark. channels_in setting parameters (drop 1 operands) >>= λ named. Ok (Act (WaitM mark (without_itself setting named)))) request is in
         let named = from_bind (channels_in setting parameters (drop 1 operands)) (λ named. Ok (Act (WaitM mark.0 (without_itself setting named)))) request mark.2 in
         acts which other (WaitM mark.0 (without_itself setting named.0)) request
-        (waiting_sound mark.0 named.0 (first_is (λ n. n < MARK_LIMIT) (mark_in parameters) (mark_below parameters) 25 operands mark.0 mark.1) (channels_pass (drop 1 operands) named.0 named.1)) named.2
+        (waiting_sound mark.0 named.0 (first_is (λ n. n < setting.marks) (mark_in setting parameters) (mark_below setting parameters) 25 operands mark.0 mark.1) (channels_pass (drop 1 operands) named.0 named.1)) named.2
 
-    setting_asks : (marks_in parameters operands >>= λ marks. Ok (Act (SetM marks))) ≡ Ok request → Answers which request
+    setting_asks : (marks_in setting parameters operands >>= λ marks. Ok (Act (SetM marks))) ≡ Ok request → Answers which request
     setting_asks is =
-        let marks = from_bind (marks_in parameters operands) (λ marks. Ok (Act (SetM marks))) request is in
+        let marks = from_bind (marks_in setting parameters operands) (λ marks. Ok (Act (SetM marks))) request is in
         acts which other (SetM marks.0) request (setting_sound marks.0) marks.2
 
-    clearing_asks : (marks_in parameters operands >>= λ marks. Ok (Act (ClearM marks))) ≡ Ok request → Answers which request
+    clearing_asks : (marks_in setting parameters operands >>= λ marks. Ok (Act (ClearM marks))) ≡ Ok request → Answers which request
     clearing_asks is =
-        let marks = from_bind (marks_in parameters operands) (λ marks. Ok (Act (ClearM marks))) request is in
+        let marks = from_bind (marks_in setting parameters operands) (λ marks. Ok (Act (ClearM marks))) request is in
         acts which other (ClearM marks.0) request (clearing_sound marks.0) marks.2
 
     selection_asks : selection setting parameters operands ≡ Ok request → Answers which request
@@ -347,16 +347,17 @@ module _ (setting : SettingView) (parameters : ℕ → ℤ) where
   asks word.CProt operands request is = switching_asks operands request is
 
   -- a set of marks that has none comes of no argument
-  pub no_mark_named : (operands : List OperandView) (marks : List Bool) → request_of setting parameters word.ClearM operands ≡ Ok (Act (ClearM marks)) → IsEmpty marks → operands ≡ []
+  pub no_mark_named : (operands : List OperandView) (marks : List Bool) → setting.marks ≤ MARK_LIMIT → request_of setting parameters word.ClearM operands ≡ Ok (Act (ClearM marks)) → IsEmpty marks → operands ≡ []
   unfolding request_of marks_in
-  no_mark_named [] marks is none = refl
-  no_mark_named (operand ∷ operands) marks is none =
-      let found = from_bind (marks_in parameters (operand ∷ operands)) (λ set. Ok (Act (ClearM set))) (Act (ClearM marks)) is in
+  no_mark_named [] marks few is none = refl
+  no_mark_named (operand ∷ operands) marks few is none =
+      let found = from_bind (marks_in setting parameters (operand ∷ operands)) (λ set. Ok (Act (ClearM set))) (Act (ClearM marks)) is in
       let same : found.0 ≡ marks = alike_sets found.0 marks found.2 in
-      let first = from_bind (mark_in parameters operand) (λ n. set_with (mark_in parameters) (slice_set (replicate MARK_LIMIT false) n true) operands) found.0 found.1 in
-      let below = mark_below parameters operand first.0 first.1 in
+      let first = from_bind (mark_in setting parameters operand) (λ n. set_with (mark_in setting parameters) (slice_set (replicate MARK_LIMIT false) n true) operands) found.0 found.1 in
+      let named : first.0 < setting.marks = mark_below setting parameters operand first.0 first.1 in
+      let below : first.0 < MARK_LIMIT = omega (arith, named, few) in
       let stands : has found.0 first.0 ≡ true =
-      all_kept (mark_in parameters) (slice_set (replicate MARK_LIMIT false) first.0 true) operands found.0 first.2 first.0
+      all_kept (mark_in setting parameters) (slice_set (replicate MARK_LIMIT false) first.0 true) operands found.0 first.2 first.0
       (get_or-set_same (replicate MARK_LIMIT false) first.0 true false below) in
       absurd (never (sym (none first.0) ∙ ap (λ (s : List Bool). has s first.0) (sym same) ∙ stands))
     where

@@ -28,8 +28,8 @@ whole_below limit (pos n) = if n % 1000000 == 0 && nat_lt n (limit * 1000000) th
 whole_below limit (negsuc n) = None
 
 -- the number of a mark
-abbrev pub mark_in : (ℕ → ℤ) → OperandView → Result ℕ ℕ
-mark_in parameters operand = operand_value parameters NO_SUCH_MARK operand >>= λ value. or_alarm NO_SUCH_MARK (whole_below MARK_LIMIT value)
+abbrev pub mark_in : SettingView → (ℕ → ℤ) → OperandView → Result ℕ ℕ
+mark_in setting parameters operand = operand_value parameters NO_SUCH_MARK operand >>= λ value. or_alarm NO_SUCH_MARK (whole_below setting.marks value)
 
 -- of numbers from 1 on, one that passes
 abbrev pub if_passes : (ℕ → Bool) → Option ℕ → Option ℕ
@@ -89,8 +89,8 @@ set_with number_in set [] = Ok set
 set_with number_in set (operand ∷ operands) = number_in operand >>= λ number. set_with number_in (slice_set set number true) operands
 
 -- the marks of these arguments
-unfoldable pub marks_in : (ℕ → ℤ) → List OperandView → Result (List Bool) ℕ
-marks_in parameters operands = set_with (mark_in parameters) (replicate MARK_LIMIT false) operands
+unfoldable pub marks_in : SettingView → (ℕ → ℤ) → List OperandView → Result (List Bool) ℕ
+marks_in setting parameters operands = set_with (mark_in setting parameters) (replicate MARK_LIMIT false) operands
 
 -- their channels
 unfoldable pub channels_in : SettingView → (ℕ → ℤ) → List OperandView → Result (List Bool) ℕ

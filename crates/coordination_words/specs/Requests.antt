@@ -21,7 +21,7 @@ without_itself setting named = slice_set named setting.channel false
 -- the mark comes before the channels
 abbrev pub meeting : SettingView → (ℕ → ℤ) → List OperandView → Result Request ℕ
 meeting setting parameters operands =
-    first_in (mark_in parameters) NO_SUCH_MARK operands >>= λ mark.
+    first_in (mark_in setting parameters) NO_SUCH_MARK operands >>= λ mark.
     channels_in setting parameters (drop 1 operands) >>= λ named.
     Ok (Act (WaitM mark (without_itself setting named)))
 
@@ -62,8 +62,8 @@ taking setting axes = if leaves_zones_whole setting axes then Ok (Act (Get axes)
 unfoldable pub request_of : SettingView → (ℕ → ℤ) → CoordWord → List OperandView → Result Request ℕ
 request_of setting parameters word.WaitM operands = meeting setting parameters operands
 request_of setting parameters word.WaitMC operands = meeting setting parameters operands
-request_of setting parameters word.SetM operands = marks_in parameters operands >>= λ marks. Ok (Act (SetM marks))
-request_of setting parameters word.ClearM operands = marks_in parameters operands >>= λ marks. Ok (Act (ClearM marks))
+request_of setting parameters word.SetM operands = marks_in setting parameters operands >>= λ marks. Ok (Act (SetM marks))
+request_of setting parameters word.ClearM operands = marks_in setting parameters operands >>= λ marks. Ok (Act (ClearM marks))
 request_of setting parameters word.Init operands = selection setting parameters operands
 request_of setting parameters word.Start operands = channels_in setting parameters operands >>= λ named. Ok (Act (Start named))
 request_of setting parameters word.WaitE operands = channels_in setting parameters operands >>= λ named. Ok (Act (WaitE named))

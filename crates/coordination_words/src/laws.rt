@@ -1,7 +1,8 @@
 //! Laws of requests. The functions do nothing: their contracts are the laws.
 
-ghost use Rattle.std.specs.Prelude.{◌≡◌, ◌≢◌, ℕ, ℤ, Bool, true, List, [], Ok, Err};
+ghost use Rattle.std.specs.Prelude.{◌≡◌, ◌≢◌, ◌≤◌, ℕ, ℤ, Bool, true, List, [], Ok, Err};
 ghost use Rattle.axis_sets.specs.Sets.{IsEmpty};
+ghost use Rattle.axis_sets.specs.declared.limits.TheConstants.{MARK_LIMIT};
 ghost use Rattle.nc_blocks.specs.Statement.{OperandView};
 ghost use Rattle.nc_blocks.specs.declared.blocks.CoordWord.{CoordWord};
 ghost use Rattle.nc_blocks.specs.declared.blocks.CoordWord.TheVariants as coord;
@@ -31,9 +32,11 @@ pub fn switches_are_of_held_zones()
         → (setting.holds zone ≡ true) × (word ≡ coord.CProt) }
 {}
 
-/// A law: CLEARM asks for the set with no mark, which stands for all, only where it has no argument.
+/// A law: CLEARM asks for the set with no mark, which stands for all, only where it has no argument, in any job whose marks
+/// a set can hold.
 pub fn clearm_without_arguments_lowers_all()
     ensures { (setting : SettingView) (parameters : ℕ → ℤ) (operands : List OperandView) (marks : List Bool)
+        → setting.marks ≤ MARK_LIMIT
         → model.request_of setting parameters coord.ClearM operands ≡ Ok (Act (ClearM marks))
         → IsEmpty marks
         → operands ≡ [] }

@@ -9,8 +9,8 @@ ghost use Rattle.coordination_words.specs.Operands as model;
 use crate::programs::program_of;
 use crate::setting::Setting;
 use axis_sets::{
-    AxisId, AxisSet, CHANNEL_PLACES, ChannelId, ChannelSet, MARK_LIMIT, MarkSet, Member, Set,
-    ZONE_PLACES, ZoneId,
+    AxisId, AxisSet, CHANNEL_PLACES, ChannelId, ChannelSet, MarkSet, Member, Set, ZONE_PLACES,
+    ZoneId,
 };
 use fault_codes::alarms::{
     NO_SUCH_AXIS, NO_SUCH_CHANNEL, NO_SUCH_MARK, NO_SUCH_PROGRAM, ZONE_NOT_HELD, ZONE_STATE,
@@ -48,13 +48,18 @@ fn whole_below(value: Num, limit: u8) -> Option<u8>
 }
 
 /// The mark of an argument.
-pub(crate) fn mark_in<N: Names>(operand: &Operand, parameters: &N) -> Result<u8, u16>
+pub(crate) fn mark_in<S: Setting, N: Names>(
+    operand: &Operand,
+    setting: &S,
+    parameters: &N,
+) -> Result<u8, u16>
     requires { OperandFits (operand_view operand.now) }
-    ensures value { result ≡ model.mark_in (N.parameter parameters.now) (operand_view operand.now) }
+    ensures value { result ≡ model.mark_in (S.setting setting.now) (N.parameter parameters.now)
+        (operand_view operand.now) }
     ensures below { IfOk result (λ mark. mark < MARK_LIMIT) }
 {
     let value = operand_value(operand, parameters, NO_SUCH_MARK)?;
-    match whole_below(value, MARK_LIMIT as u8) {
+    match whole_below(value, setting.mark_count() as u8) {
         Some(mark) => Ok(mark),
         None => Err(NO_SUCH_MARK),
     }
@@ -236,13 +241,18 @@ fn with_mark(set: MarkSet, mark: u8) -> MarkSet
 
 /// The marks of these arguments.
 #[tactic(auto, unfolding(crate::specs::Operands::marks_in))]
-pub(crate) fn marks_in<N: Names>(operands: &[Operand], parameters: &N) -> Result<MarkSet, u16>
+pub(crate) fn marks_in<S: Setting, N: Names>(
+    operands: &[Operand],
+    setting: &S,
+    parameters: &N,
+) -> Result<MarkSet, u16>
     requires { All OperandFits (map operand_view operands.now) }
-    ensures { result ≡ model.marks_in (N.parameter parameters.now) (map operand_view operands.now) }
+    ensures { result ≡ model.marks_in (S.setting setting.now) (N.parameter parameters.now)
+        (map operand_view operands.now) }
 {
     let mut marks = MarkSet::empty();
     for operand in operands {
-        let mark = mark_in(operand, parameters)?;
+        let mark = mark_in(operand, setting, parameters)?;
         marks = with_mark(marks, mark);
     }
     Ok(marks)

@@ -5,12 +5,18 @@ use nc_blocks::NameText;
 
 /// What a coordination block finds in its job and in its channel.
 pub trait Setting {
-    ghost use Rattle.std.specs.Prelude.{◌≡◌, ◌<◌, None, length, slice_index_or};
+    ghost use Rattle.std.specs.Prelude.{◌≡◌, ◌<◌, ◌≤◌, None, length, slice_index_or};
+    ghost use Rattle.axis_sets.specs.declared.limits.TheConstants.{MARK_LIMIT};
     ghost use Rattle.coordination_words.specs.Programs.{number_of};
     ghost use Rattle.coordination_words.specs.Settings.{SettingView};
 
     /// All of it, as plain lists and look-ups.
     ghost setting: { Self → SettingView };
+
+    /// How many marks there are.
+    fn mark_count(&self) -> usize
+        ensures count { result ≡ (setting self.now).marks }
+        ensures few { result ≤ MARK_LIMIT };
 
     /// The channel.
     fn channel(&self) -> ChannelId

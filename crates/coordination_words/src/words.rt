@@ -44,7 +44,7 @@ fn meeting<S: Setting, N: Names>(
     let Some((first, others)) = operands.split_first() else {
         return Err(NO_SUCH_MARK);
     };
-    let mark = mark_in(first, parameters)?;
+    let mark = mark_in(first, setting, parameters)?;
     let named = channels_in(others, setting, parameters)?;
     Ok(Request::Act(Action::WaitM(mark, without(named, setting.channel()))))
 }
@@ -167,8 +167,14 @@ pub fn request_of<S: Setting, N: Names>(
     match word {
         CoordWord::WaitM => meeting(operands, setting, parameters),
         CoordWord::WaitMC => meeting(operands, setting, parameters),
-        CoordWord::SetM => Ok(Request::Act(Action::SetM(marks_in(operands, parameters)?))),
-        CoordWord::ClearM => Ok(Request::Act(Action::ClearM(marks_in(operands, parameters)?))),
+        CoordWord::SetM => {
+            let marks = marks_in(operands, setting, parameters)?;
+            Ok(Request::Act(Action::SetM(marks)))
+        }
+        CoordWord::ClearM => {
+            let marks = marks_in(operands, setting, parameters)?;
+            Ok(Request::Act(Action::ClearM(marks)))
+        }
         CoordWord::Init => selection(operands, setting, parameters),
         CoordWord::Start => {
             let named = channels_in(operands, setting, parameters)?;

@@ -1,1 +1,2 @@
+pub mod ExtentLaws
 pub mod LengthLemmas

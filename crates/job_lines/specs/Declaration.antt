@@ -1,4 +1,4 @@
--- Meaning. What a job line says by itself, from its words in upper case. The number of words and the options come before the forms.
+-- Meaning. What a job line says by itself, from its words in upper case, where channels have numbers up to the greatest. The number of words and the options come before the forms.
 use Rattle.std.specs.Prelude.{ℕ, Bool, true, false, ◌||◌, if◌then◌else◌, ◌==◌, nat_le, int_le, codes, List, [], ◌∷◌, Result, Ok, Err, Option, Some, None}
 use Rattle.std.specs.List.{list_any}
 use Rattle.std.specs.Option.{option_and_then}
@@ -14,11 +14,11 @@ use Rattle.job_lines.specs.Code.{◌>>=◌, or_code}
 use Rattle.job_lines.specs.Numbers.{number_within}
 use Rattle.job_lines.specs.Length.{length_of}
 use Rattle.job_lines.specs.OptionLines.{option_declaration_of}
-use Rattle.axis_sets.specs.declared.limits.TheConstants.{CHANNEL_LIMIT, ZONE_LIMIT}
+use Rattle.axis_sets.specs.declared.limits.TheConstants.{ZONE_LIMIT}
 
--- a channel
-unfoldable pub channel_of : List ℕ → Result ℕ Code
-channel_of word = or_code OutOfRange (number_within 1 CHANNEL_LIMIT word)
+-- a channel, up to the greatest
+unfoldable pub channel_of : ℕ → List ℕ → Result ℕ Code
+channel_of greatest word = or_code OutOfRange (number_within 1 greatest word)
 
 -- a zone, or a group
 unfoldable pub zone_of : List ℕ → Result ℕ Code
@@ -33,8 +33,8 @@ axis_name_of (letter ∷ digits) =
     else Err OutOfRange
 
 -- the owner of an axis and the holder of a zone: a channel, or none where it is free
-unfoldable pub owner_of : List ℕ → Result (Option ℕ) Code
-owner_of word = if bytes_eq word (codes "FREE") then Ok None else channel_of word >>= (λ channel. Ok (Some channel))
+unfoldable pub owner_of : ℕ → List ℕ → Result (Option ℕ) Code
+owner_of greatest word = if bytes_eq word (codes "FREE") then Ok None else channel_of greatest word >>= (λ channel. Ok (Some channel))
 
 unfoldable pub slot_of : List ℕ → Result ℕ Code
 slot_of word =
@@ -75,52 +75,52 @@ named_side_of carrier lo hi = do
   if int_le lo hi then Ok (record { carrier = carrier; lo = lo; hi = hi }) else Err OutOfRange
 
 -- a channel, with a program or none, that starts running or not
-unfoldable pub channel_declaration_of : List ℕ → Option (List ℕ) → Bool → Result Declaration Code
-channel_declaration_of channel program starts = channel_of channel >>= (λ number. Ok (Channel number program starts))
+unfoldable pub channel_declaration_of : ℕ → List ℕ → Option (List ℕ) → Bool → Result Declaration Code
+channel_declaration_of greatest channel program starts = channel_of greatest channel >>= (λ number. Ok (Channel number program starts))
 
-unfoldable pub starting_declaration_of : List ℕ → List ℕ → List ℕ → Result Declaration Code
-starting_declaration_of channel program start =
-    if bytes_eq start (codes "START") then channel_declaration_of channel (Some (name_of program)) true else Err UnknownJobLine
+unfoldable pub starting_declaration_of : ℕ → List ℕ → List ℕ → List ℕ → Result Declaration Code
+starting_declaration_of greatest channel program start =
+    if bytes_eq start (codes "START") then channel_declaration_of greatest channel (Some (name_of program)) true else Err UnknownJobLine
 
-unfoldable pub channel_line : List (List ℕ) → Result Declaration Code
-channel_line (channel ∷ []) = channel_declaration_of channel None false
-channel_line (channel ∷ program ∷ []) = channel_declaration_of channel (Some (name_of program)) false
-channel_line (channel ∷ program ∷ start ∷ []) = starting_declaration_of channel program start
-channel_line args = Err UnknownJobLine
+unfoldable pub channel_line : ℕ → List (List ℕ) → Result Declaration Code
+channel_line greatest (channel ∷ []) = channel_declaration_of greatest channel None false
+channel_line greatest (channel ∷ program ∷ []) = channel_declaration_of greatest channel (Some (name_of program)) false
+channel_line greatest (channel ∷ program ∷ start ∷ []) = starting_declaration_of greatest channel program start
+channel_line greatest args = Err UnknownJobLine
 
-unfoldable pub axis_declaration_of : List ℕ → List ℕ → List ℕ → Result Declaration Code
-axis_declaration_of name owner at = do
+unfoldable pub axis_declaration_of : ℕ → List ℕ → List ℕ → List ℕ → Result Declaration Code
+axis_declaration_of greatest name owner at = do
   name ← axis_name_of name
-  owner ← owner_of owner
+  owner ← owner_of greatest owner
   at ← length_of at
   Ok (Axis name owner at)
 
-unfoldable pub axis_line : List (List ℕ) → Result Declaration Code
-axis_line (name ∷ owner ∷ at ∷ []) = axis_declaration_of name owner at
-axis_line args = Err UnknownJobLine
+unfoldable pub axis_line : ℕ → List (List ℕ) → Result Declaration Code
+axis_line greatest (name ∷ owner ∷ at ∷ []) = axis_declaration_of greatest name owner at
+axis_line greatest args = Err UnknownJobLine
 
-unfoldable pub geo_declaration_of : List ℕ → List ℕ → List ℕ → Result Declaration Code
-geo_declaration_of channel slot axis = do
-  channel ← channel_of channel
+unfoldable pub geo_declaration_of : ℕ → List ℕ → List ℕ → List ℕ → Result Declaration Code
+geo_declaration_of greatest channel slot axis = do
+  channel ← channel_of greatest channel
   slot ← slot_of slot
   axis ← axis_name_of axis
   Ok (Geo channel slot axis)
 
-unfoldable pub geo_line : List (List ℕ) → Result Declaration Code
-geo_line (channel ∷ slot ∷ axis ∷ []) = geo_declaration_of channel slot axis
-geo_line args = Err UnknownJobLine
+unfoldable pub geo_line : ℕ → List (List ℕ) → Result Declaration Code
+geo_line greatest (channel ∷ slot ∷ axis ∷ []) = geo_declaration_of greatest channel slot axis
+geo_line greatest args = Err UnknownJobLine
 
-unfoldable pub offset_declaration_of : List ℕ → List ℕ → List ℕ → List ℕ → Result Declaration Code
-offset_declaration_of channel g slot length = do
-  channel ← channel_of channel
+unfoldable pub offset_declaration_of : ℕ → List ℕ → List ℕ → List ℕ → List ℕ → Result Declaration Code
+offset_declaration_of greatest channel g slot length = do
+  channel ← channel_of greatest channel
   g ← g_of g
   slot ← slot_of slot
   by ← length_of length
   Ok (Offset channel g slot by)
 
-unfoldable pub offset_line : List (List ℕ) → Result Declaration Code
-offset_line (channel ∷ g ∷ slot ∷ length ∷ []) = offset_declaration_of channel g slot length
-offset_line args = Err UnknownJobLine
+unfoldable pub offset_line : ℕ → List (List ℕ) → Result Declaration Code
+offset_line greatest (channel ∷ g ∷ slot ∷ length ∷ []) = offset_declaration_of greatest channel g slot length
+offset_line greatest args = Err UnknownJobLine
 
 -- whether a zone is on
 unfoldable pub state_of : List ℕ → Result Bool Code
@@ -129,34 +129,34 @@ state_of word =
     else if bytes_eq word (codes "OFF") then Ok false
     else Err UnknownJobLine
 
-unfoldable pub zone_declaration_of : List ℕ → List ℕ → List ℕ → List ℕ → List ℕ → List ℕ → List ℕ → List ℕ → List ℕ → List ℕ → List ℕ → List ℕ → List ℕ → Result Declaration Code
-zone_declaration_of zone group holder state cx lx hx cy ly hy cz lz hz = do
+unfoldable pub zone_declaration_of : ℕ → List ℕ → List ℕ → List ℕ → List ℕ → List ℕ → List ℕ → List ℕ → List ℕ → List ℕ → List ℕ → List ℕ → List ℕ → List ℕ → Result Declaration Code
+zone_declaration_of greatest zone group holder state cx lx hx cy ly hy cz lz hz = do
   on ← state_of state
   zone ← zone_of zone
   group ← zone_of group
-  holder ← owner_of holder
+  holder ← owner_of greatest holder
   x ← named_side_of cx lx hx
   y ← named_side_of cy ly hy
   z ← named_side_of cz lz hz
   Ok (Zone (record { zone = zone; group = group; holder = holder; on = on; x = x; y = y; z = z }))
 
-unfoldable pub zone_line : List (List ℕ) → Result Declaration Code
-zone_line (zone ∷ group ∷ holder ∷ state ∷ cx ∷ lx ∷ hx ∷ cy ∷ ly ∷ hy ∷ cz ∷ lz ∷ hz ∷ []) =
-    zone_declaration_of zone group holder state cx lx hx cy ly hy cz lz hz
-zone_line args = Err UnknownJobLine
+unfoldable pub zone_line : ℕ → List (List ℕ) → Result Declaration Code
+zone_line greatest (zone ∷ group ∷ holder ∷ state ∷ cx ∷ lx ∷ hx ∷ cy ∷ ly ∷ hy ∷ cz ∷ lz ∷ hz ∷ []) =
+    zone_declaration_of greatest zone group holder state cx lx hx cy ly hy cz lz hz
+zone_line greatest args = Err UnknownJobLine
 
 -- a second job line
 unfoldable pub job_line : List (List ℕ) → Result Declaration Code
 job_line (version ∷ []) = Err DeclaredTwice
 job_line args = Err UnknownJobLine
 
--- what a job line says: its first word, and the others
-unfoldable pub declaration_of : List ℕ → List (List ℕ) → Result Declaration Code
-declaration_of kind args =
-    if bytes_eq kind (codes "CHANNEL") then channel_line args
-    else if bytes_eq kind (codes "AXIS") then axis_line args
-    else if bytes_eq kind (codes "GEO") then geo_line args
-    else if bytes_eq kind (codes "OFFSET") then offset_line args
-    else if bytes_eq kind (codes "ZONE") then zone_line args
+-- what a job line says, where channels have numbers up to the greatest: its first word, and the others
+unfoldable pub declaration_of : ℕ → List ℕ → List (List ℕ) → Result Declaration Code
+declaration_of greatest kind args =
+    if bytes_eq kind (codes "CHANNEL") then channel_line greatest args
+    else if bytes_eq kind (codes "AXIS") then axis_line greatest args
+    else if bytes_eq kind (codes "GEO") then geo_line greatest args
+    else if bytes_eq kind (codes "OFFSET") then offset_line greatest args
+    else if bytes_eq kind (codes "ZONE") then zone_line greatest args
     else if bytes_eq kind (codes "JOB") then job_line args
     else option_declaration_of kind args

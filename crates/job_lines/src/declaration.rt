@@ -6,7 +6,7 @@ use crate::code::Code;
 use crate::length::length_in;
 use crate::numbers::{number_within, small_within};
 use crate::option_lines::option_declaration_in;
-use axis_sets::{CHANNEL_LIMIT, ChannelId, ZONE_LIMIT, ZoneId};
+use axis_sets::{ChannelId, ZONE_LIMIT, ZoneId};
 use micro_units::Um;
 use nc_blocks::NameText;
 
@@ -104,12 +104,12 @@ pub enum Declaration {
     Skip,
 }
 
-/// The channel that the word names.
+/// The channel that the word names, up to the greatest.
 #[tactic(auto, unfolding(crate::specs::Declaration::channel_of))]
-fn channel_in(word: &[u8]) -> Result<ChannelId, Code>
-    ensures { result ≡ channel_of word.now }
+fn channel_in(greatest: u8, word: &[u8]) -> Result<ChannelId, Code>
+    ensures { result ≡ channel_of greatest word.now }
 {
-    match small_within(1, CHANNEL_LIMIT as u8, word) {
+    match small_within(1, greatest, word) {
         Some(number) => Ok(ChannelId { number }),
         None => Err(Code::OutOfRange),
     }
@@ -159,13 +159,13 @@ fn axis_name_in(word: &[u8]) -> Result<AxisName, Code>
 
 /// The channel that owns an axis or holds a zone, or none where it is free.
 #[tactic(auto, unfolding(crate::specs::Declaration::owner_of))]
-fn owner_in(word: &[u8]) -> Result<Option<ChannelId>, Code>
-    ensures { result ≡ owner_of word.now }
+fn owner_in(greatest: u8, word: &[u8]) -> Result<Option<ChannelId>, Code>
+    ensures { result ≡ owner_of greatest word.now }
 {
     if word == b"FREE".as_slice() {
         return Ok(None);
     }
-    Ok(Some(channel_in(word)?))
+    Ok(Some(channel_in(greatest, word)?))
 }
 
 /// The slot that the word names.
@@ -228,13 +228,14 @@ fn named_side_in(carrier: &[u8], lo: &[u8], hi: &[u8]) -> Result<NamedSide, Code
 /// A channel with a program or none.
 #[tactic(auto, unfolding(crate::specs::Declaration::channel_declaration_of))]
 fn channel_declaration_in(
+    greatest: u8,
     channel: &[u8],
     program: Option<NameText>,
     starts: bool,
 ) -> Result<Declaration, Code>
-    ensures { result ≡ channel_declaration_of channel.now program starts }
+    ensures { result ≡ channel_declaration_of greatest channel.now program starts }
 {
-    let channel = channel_in(channel)?;
+    let channel = channel_in(greatest, channel)?;
     Ok(Declaration::Channel {
         channel,
         program,
@@ -245,63 +246,75 @@ fn channel_declaration_in(
 /// A channel that runs a program from the beginning.
 #[tactic(auto, unfolding(crate::specs::Declaration::starting_declaration_of))]
 fn starting_declaration_in(
+    greatest: u8,
     channel: &[u8],
     program: &[u8],
     start: &[u8],
 ) -> Result<Declaration, Code>
-    ensures { result ≡ starting_declaration_of channel.now program.now start.now }
+    ensures { result ≡ starting_declaration_of greatest channel.now program.now start.now }
 {
     if start != b"START".as_slice() {
         return Err(Code::UnknownJobLine);
     }
-    channel_declaration_in(channel, Some(NameText::of_word(program)), true)
+    channel_declaration_in(greatest, channel, Some(NameText::of_word(program)), true)
 }
 
 /// What follows CHANNEL.
 #[tactic(auto, unfolding(crate::specs::Declaration::channel_line))]
-fn channel_line_in(args: &[&[u8]]) -> Result<Declaration, Code>
-    ensures { result ≡ channel_line (map (λ word. word.now) args.now) }
+fn channel_line_in(greatest: u8, args: &[&[u8]]) -> Result<Declaration, Code>
+    ensures { result ≡ channel_line greatest (map (λ word. word.now) args.now) }
 {
     match args {
-        [channel] => channel_declaration_in(channel, None, false),
+        [channel] => channel_declaration_in(greatest, channel, None, false),
         [channel, program] => channel_declaration_in(
+            greatest,
             channel,
             Some(NameText::of_word(program)),
             false,
         ),
-        [channel, program, start] => starting_declaration_in(channel, program, start),
+        [channel, program, start] => starting_declaration_in(greatest, channel, program, start),
         _ => Err(Code::UnknownJobLine),
     }
 }
 
 /// An axis, its owner and its position.
 #[tactic(auto, unfolding(crate::specs::Declaration::axis_declaration_of))]
-fn axis_declaration_in(name: &[u8], owner: &[u8], at: &[u8]) -> Result<Declaration, Code>
-    ensures { result ≡ axis_declaration_of name.now owner.now at.now }
+fn axis_declaration_in(
+    greatest: u8,
+    name: &[u8],
+    owner: &[u8],
+    at: &[u8],
+) -> Result<Declaration, Code>
+    ensures { result ≡ axis_declaration_of greatest name.now owner.now at.now }
 {
     let name = axis_name_in(name)?;
-    let owner = owner_in(owner)?;
+    let owner = owner_in(greatest, owner)?;
     let at = length_in(at)?;
     Ok(Declaration::Axis { name, owner, at })
 }
 
 /// What follows AXIS.
 #[tactic(auto, unfolding(crate::specs::Declaration::axis_line))]
-fn axis_line_in(args: &[&[u8]]) -> Result<Declaration, Code>
-    ensures { result ≡ axis_line (map (λ word. word.now) args.now) }
+fn axis_line_in(greatest: u8, args: &[&[u8]]) -> Result<Declaration, Code>
+    ensures { result ≡ axis_line greatest (map (λ word. word.now) args.now) }
 {
     match args {
-        [name, owner, at] => axis_declaration_in(name, owner, at),
+        [name, owner, at] => axis_declaration_in(greatest, name, owner, at),
         _ => Err(Code::UnknownJobLine),
     }
 }
 
 /// A slot of a channel, and the axis in it.
 #[tactic(auto, unfolding(crate::specs::Declaration::geo_declaration_of))]
-fn geo_declaration_in(channel: &[u8], slot: &[u8], axis: &[u8]) -> Result<Declaration, Code>
-    ensures { result ≡ geo_declaration_of channel.now slot.now axis.now }
+fn geo_declaration_in(
+    greatest: u8,
+    channel: &[u8],
+    slot: &[u8],
+    axis: &[u8],
+) -> Result<Declaration, Code>
+    ensures { result ≡ geo_declaration_of greatest channel.now slot.now axis.now }
 {
-    let channel = channel_in(channel)?;
+    let channel = channel_in(greatest, channel)?;
     let slot = slot_in(slot)?;
     let axis = axis_name_in(axis)?;
     Ok(Declaration::Geo {
@@ -313,11 +326,11 @@ fn geo_declaration_in(channel: &[u8], slot: &[u8], axis: &[u8]) -> Result<Declar
 
 /// What follows GEO.
 #[tactic(auto, unfolding(crate::specs::Declaration::geo_line))]
-fn geo_line_in(args: &[&[u8]]) -> Result<Declaration, Code>
-    ensures { result ≡ geo_line (map (λ word. word.now) args.now) }
+fn geo_line_in(greatest: u8, args: &[&[u8]]) -> Result<Declaration, Code>
+    ensures { result ≡ geo_line greatest (map (λ word. word.now) args.now) }
 {
     match args {
-        [channel, slot, axis] => geo_declaration_in(channel, slot, axis),
+        [channel, slot, axis] => geo_declaration_in(greatest, channel, slot, axis),
         _ => Err(Code::UnknownJobLine),
     }
 }
@@ -325,14 +338,15 @@ fn geo_line_in(args: &[&[u8]]) -> Result<Declaration, Code>
 /// A settable offset.
 #[tactic(auto, unfolding(crate::specs::Declaration::offset_declaration_of))]
 fn offset_declaration_in(
+    greatest: u8,
     channel: &[u8],
     g: &[u8],
     slot: &[u8],
     by: &[u8],
 ) -> Result<Declaration, Code>
-    ensures { result ≡ offset_declaration_of channel.now g.now slot.now by.now }
+    ensures { result ≡ offset_declaration_of greatest channel.now g.now slot.now by.now }
 {
-    let channel = channel_in(channel)?;
+    let channel = channel_in(greatest, channel)?;
     let g = g_in(g)?;
     let slot = slot_in(slot)?;
     let by = length_in(by)?;
@@ -346,11 +360,11 @@ fn offset_declaration_in(
 
 /// What follows OFFSET.
 #[tactic(auto, unfolding(crate::specs::Declaration::offset_line))]
-fn offset_line_in(args: &[&[u8]]) -> Result<Declaration, Code>
-    ensures { result ≡ offset_line (map (λ word. word.now) args.now) }
+fn offset_line_in(greatest: u8, args: &[&[u8]]) -> Result<Declaration, Code>
+    ensures { result ≡ offset_line greatest (map (λ word. word.now) args.now) }
 {
     match args {
-        [channel, g, slot, by] => offset_declaration_in(channel, g, slot, by),
+        [channel, g, slot, by] => offset_declaration_in(greatest, channel, g, slot, by),
         _ => Err(Code::UnknownJobLine),
     }
 }
@@ -372,6 +386,7 @@ fn state_in(word: &[u8]) -> Result<bool, Code>
 /// A zone.
 #[tactic(auto, unfolding(crate::specs::Declaration::zone_declaration_of))]
 fn zone_declaration_in(
+    greatest: u8,
     zone: &[u8],
     group: &[u8],
     holder: &[u8],
@@ -386,13 +401,13 @@ fn zone_declaration_in(
     lz: &[u8],
     hz: &[u8],
 ) -> Result<Declaration, Code>
-    ensures { result ≡ zone_declaration_of zone.now group.now holder.now state.now cx.now lx.now hx.now cy.now
-        ly.now hy.now cz.now lz.now hz.now }
+    ensures { result ≡ zone_declaration_of greatest zone.now group.now holder.now state.now cx.now lx.now hx.now
+        cy.now ly.now hy.now cz.now lz.now hz.now }
 {
     let on = state_in(state)?;
     let zone = zone_in(zone)?;
     let group = group_in(group)?;
-    let holder = owner_in(holder)?;
+    let holder = owner_in(greatest, holder)?;
     let x = named_side_in(cx, lx, hx)?;
     let y = named_side_in(cy, ly, hy)?;
     let z = named_side_in(cz, lz, hz)?;
@@ -409,8 +424,8 @@ fn zone_declaration_in(
 
 /// What follows ZONE.
 #[tactic(auto, unfolding(crate::specs::Declaration::zone_line))]
-fn zone_line_in(args: &[&[u8]]) -> Result<Declaration, Code>
-    ensures { result ≡ zone_line (map (λ word. word.now) args.now) }
+fn zone_line_in(greatest: u8, args: &[&[u8]]) -> Result<Declaration, Code>
+    ensures { result ≡ zone_line greatest (map (λ word. word.now) args.now) }
 {
     match args {
         [
@@ -428,7 +443,7 @@ fn zone_line_in(args: &[&[u8]]) -> Result<Declaration, Code>
             lz,
             hz,
         ] => zone_declaration_in(
-            zone, group, holder, state, cx, lx, hx, cy, ly, hy, cz, lz, hz,
+            greatest, zone, group, holder, state, cx, lx, hx, cy, ly, hy, cz, lz, hz,
         ),
         _ => Err(Code::UnknownJobLine),
     }
@@ -445,23 +460,23 @@ fn job_line_in(args: &[&[u8]]) -> Result<Declaration, Code>
     }
 }
 
-/// What a job line says, from its first word and the others, all in upper case.
+/// What a job line says, from its first word and the others, all in upper case, where channels have numbers up to the greatest.
 ///
 /// A first word that begins no job line, a wrong number of words, and a word in the place of START, ON, OFF or CONTOUR that is none of these are tried first (`UnknownJobLine`); then, from left to right, the numbers, names and lengths (`OutOfRange`).
 #[tactic(auto, unfolding(crate::specs::Declaration::declaration_of))]
-pub fn declaration_in(kind: &[u8], args: &[&[u8]]) -> Result<Declaration, Code>
-    ensures { result ≡ declaration_of kind.now (map (λ word. word.now) args.now) }
+pub fn declaration_in(greatest: u8, kind: &[u8], args: &[&[u8]]) -> Result<Declaration, Code>
+    ensures { result ≡ declaration_of greatest kind.now (map (λ word. word.now) args.now) }
 {
     if kind == b"CHANNEL".as_slice() {
-        channel_line_in(args)
+        channel_line_in(greatest, args)
     } else if kind == b"AXIS".as_slice() {
-        axis_line_in(args)
+        axis_line_in(greatest, args)
     } else if kind == b"GEO".as_slice() {
-        geo_line_in(args)
+        geo_line_in(greatest, args)
     } else if kind == b"OFFSET".as_slice() {
-        offset_line_in(args)
+        offset_line_in(greatest, args)
     } else if kind == b"ZONE".as_slice() {
-        zone_line_in(args)
+        zone_line_in(greatest, args)
     } else if kind == b"JOB".as_slice() {
         job_line_in(args)
     } else {

@@ -3,6 +3,7 @@
 
 mod code;
 mod declaration;
+mod extent;
 mod header;
 mod length;
 mod limits;
@@ -11,5 +12,8 @@ mod option_lines;
 
 pub use code::Code;
 pub use declaration::{AxisName, Declaration, NamedSide, NamedZone, declaration_in};
+pub use extent::{
+    Extent, FIRST_VERSION, FIRST_VERSION_AXES, FIRST_VERSION_CHANNELS, FIRST_VERSION_MARKS,
+};
 pub use header::header_in;
 pub use limits::{BUDGET_LIMIT, DEPTH_LIMIT, INPUT_LIMIT, MARGIN_LIMIT, PROGRAM_LIMIT};

@@ -17,8 +17,11 @@ pub record ProgramView : Type 0 where
   pub line : ℕ
   pub blocks : List (ℕ × BlockView)
 
--- a job: what its lines declare, and its programs under their names, in the order of the input
+-- a job: the version of its job list, its number among the jobs of the input, from 1 on, and the line of its job line; what its lines declare, and its programs under their names, in the order of the input
 pub record JobView : Type 0 where
+  pub version : ℕ
+  pub number : ℕ
+  pub line : ℕ
   pub channels : List ChannelLine
   pub axes : List AxisLine
   pub geo : List GeoLine

@@ -9,6 +9,12 @@ use std::marker::Model;
 /// An accepted job: the lines of its job list in their order, and its library of programs in the order of the input.
 #[derive(Drop)]
 pub struct Job {
+    /// The version of its job list.
+    pub version: u8,
+    /// Its number among the jobs of the input, counted from 1.
+    pub number: u8,
+    /// The line of the input that is its job line, counted from 1.
+    pub line: u32,
     /// The channels.
     pub channels: Vec<ChannelLine>,
     /// The axes; an axis is named by its place here.
@@ -43,6 +49,9 @@ impl Model for Job {
     ghost coded = { Prim.hlevel (codes, tree_code) };
 
     ghost view = { λ j. record {
+      version = j.version;
+      number = j.number;
+      line = j.line;
       channels = j.channels.items;
       axes = j.axes.items;
       geo = j.geo.items;

@@ -156,12 +156,12 @@ module _ (setting : SettingView) where
 module _ (s : SurroundingsView) (axes : List Bool) where
   -- what a block of coordination finds in a channel that owns these axes
   abbrev pub found_with : SettingView
-  found_with = setting_with s.channels s.programs s.axes s.zones s.channel s.slots axes
+  found_with = setting_with s.version s.channels s.programs s.axes s.zones s.channel s.slots axes
 
   pub was_done : (past : List Deed) (place : Place) (b : ℕ × BlockView) (done : Executed) → (grant_after s past).axes ≡ axes → executed_block s past place b ≡ Ok done → IsDone found_with done
   was_done past place (line, block) done own is =
       by_request (request_in (setting_after s past) (parameter_in (parameters_after past)) block.statement)
-      (subst (λ (owned : List Bool). AsksForAll found_with (request_in (setting_with s.channels s.programs s.axes s.zones s.channel s.slots owned) (parameter_in (parameters_after past)) block.statement)) (sym own)
+      (subst (λ (owned : List Bool). AsksForAll found_with (request_in (setting_with s.version s.channels s.programs s.axes s.zones s.channel s.slots owned) (parameter_in (parameters_after past)) block.statement)) (sym own)
       (statement_asked found_with (parameter_in (parameters_after past)) block.statement)) is
     where
       made : Option Request → Effect → Executed

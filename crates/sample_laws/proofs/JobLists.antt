@@ -27,6 +27,9 @@ listed some_channels some_axes some_slots some_zones = record {
   in_programs = false;
   options = record { margin = false; depth = false; budget = false };
   job = record {
+    version = 1;
+    number = 1;
+    line = 1;
     channels = some_channels;
     axes = some_axes;
     geo = some_slots;

@@ -95,6 +95,9 @@ told_at begun programs = record {
   in_programs = begun;
   options = record { margin = false; depth = false; budget = true };
   job = record {
+    version = 1;
+    number = 1;
+    line = 1;
     channels = channels;
     axes = axes;
     geo = slots;

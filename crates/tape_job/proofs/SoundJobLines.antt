@@ -8,6 +8,8 @@ use Rattle.std.proofs.lemmas.Option.{slice_get_within}
 use Rattle.std.proofs.lemmas.List.Elements.{All-nil, All-cons, All-push, All-weaker}
 use Rattle.std.proofs.lemmas.List.Kept.{AllPairs-cons}
 use Rattle.std.proofs.lemmas.List.Quantifiers.{all_pairs_push}
+use Rattle.job_lines.proofs.ExtentLaws.{few_axes}
+use Rattle.job_lines.specs.Extent.{extent_of}
 use Rattle.job_lines.specs.declared.code.Code.TheVariants.{NotDeclared, DeclaredTwice, OwnerDiffers, TooMany}
 use Rattle.job_lines.specs.declared.declaration.AxisName.{AxisName}
 use Rattle.job_lines.specs.declared.declaration.NamedSide.{NamedSide}
@@ -206,6 +208,11 @@ axis_differs job name none line letter number =
     (λ also. differs other.letter name.letter other.number name.number fails equal (also ∙ number)))
     job.axes (none_pass (rule.is_named name) job.axes none)
 
+below_widest : (count most : ℕ) → nat_le most count ≡ false → most ≤ AXIS_LIMIT → count < AXIS_LIMIT
+below_widest count most fails few =
+    let below : count < most = search (rules, fails) in
+    omega (arith, below, few)
+
 pub axis_told : (job : JobView) (number : ℕ) (name : AxisName) (owner : Option ℕ) (at : ℤ) → ListFacts job → rule.axis_rule job name owner ≡ None
     → IsPosition at
     → ListFacts (with_axis job (record { line = number; letter = name.letter; number = name.number; owner = owner; at = at }))
@@ -216,8 +223,8 @@ axis_told job number name owner at facts none near =
     let extends : Extends job new = axis_extends job line in
     let first = unbroken (not (rule.has_owner job owner)) NotDeclared _ none in
     let second = unbroken (rule.has_axis job name) DeclaredTwice _ first.1 in
-    let third = unbroken (nat_le AXIS_LIMIT (length job.axes)) TooMany None second.1 in
-    let few : length job.axes < AXIS_LIMIT = search (rules, third.0) in
+    let third = unbroken (nat_le (extent_of job.version).axes (length job.axes)) TooMany None second.1 in
+    let few : length job.axes < AXIS_LIMIT = below_widest (length job.axes) (extent_of job.version).axes third.0 (few_axes job.version) in
     let further : length (job.axes ++ line ∷ []) ≡ length job.axes + 1 = length-append job.axes (line ∷ []) in
     let linked : Linked new job.axes job.offsets job.zones = linked_extends job new extends job.axes job.offsets job.zones facts.linked in
     record {
@@ -493,6 +500,23 @@ with_programs job programs = record job { programs = programs }
 pub list_kept : (job : JobView) (programs : List (List ℕ × ProgramView)) → ListFacts job → ListFacts (with_programs job programs)
 list_kept job programs facts =
     let new : JobView = with_programs job programs in
+    record {
+      channels = facts.channels;
+      axes = facts.axes;
+      slots = facts.slots;
+      places = facts.places;
+      numbers = facts.numbers;
+      options = facts.options;
+      linked = linked_extends job new (lines_extend job new refl refl) job.axes job.offsets job.zones facts.linked;
+    }
+
+-- the job line
+abbrev pub with_job_line : JobView → ℕ → JobView
+with_job_line job line = record job { line = line }
+
+pub job_line_told : (job : JobView) (line : ℕ) → ListFacts job → ListFacts (with_job_line job line)
+job_line_told job line facts =
+    let new : JobView = with_job_line job line in
     record {
       channels = facts.channels;
       axes = facts.axes;

@@ -26,7 +26,7 @@ use Rattle.tape_job.specs.Steps.{options_with, with_entry, with_line, with_block
 use Rattle.job_types.specs.SoundJob.{IsSoundJob}
 use Rattle.tape_job.proofs.SoundLists.{unbroken, not_false, none_found}
 use Rattle.tape_job.proofs.SoundReadings.{IsSoundDeclaration, IsSoundReading, reading_sound}
-use Rattle.tape_job.proofs.SoundJobLines.{ListFacts, HasRange, no_pairs, list_kept, nothing_listed, side_range, sound_range, axis_within, channel_told, axis_told, geo_told, offset_told, zone_told, options_told}
+use Rattle.tape_job.proofs.SoundJobLines.{ListFacts, HasRange, no_pairs, list_kept, job_line_told, nothing_listed, side_range, sound_range, axis_within, channel_told, axis_told, geo_told, offset_told, zone_told, options_told}
 use Rattle.tape_job.proofs.SoundPrograms.{NestedSoFar, nested_block, nested_header, all_nested, keys-with_block, length-with_block, keys-push, names_differ, program_found}
 use Rattle.tape_job.proofs.TellingLemmas.{read_of_is}
 
@@ -139,7 +139,7 @@ line_told facts_of number seen late percent options (Err code) sound none ended 
 line_told facts_of number seen late percent options (Ok Blank) sound none ended fits =
     record { list = sound.list; names = sound.names; few = sound.few; nested = sound.nested }
 line_told facts_of number seen late percent options (Ok First) sound none ended fits =
-    record { list = sound.list; names = sound.names; few = sound.few; nested = sound.nested }
+    record { list = job_line_told facts_of.job number sound.list; names = sound.names; few = sound.few; nested = sound.nested }
 line_told facts_of number seen late percent options (Ok (DeclarationLine declaration)) sound none ended fits =
     entry_told facts_of number seen late options declaration sound (unmapped refusal_code (rule.declaration_rule facts_of.options facts_of.job declaration) none) fits
 line_told facts_of number seen late percent options (Ok (Header name)) sound none ended fits =

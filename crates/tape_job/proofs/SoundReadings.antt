@@ -21,6 +21,8 @@ use Rattle.job_lines.specs.declared.declaration.Declaration.TheVariants.{Channel
 use Rattle.job_lines.specs.Code.{◌>>=◌, or_code}
 use Rattle.job_lines.specs.Header.{header_of}
 use Rattle.job_lines.specs.Declaration as declaration
+use Rattle.job_lines.specs.Extent.{extent_of}
+use Rattle.job_lines.proofs.ExtentLaws.{few_channels}
 use Rattle.job_lines.specs.OptionLines as option
 use Rattle.job_lines.specs.Numbers.{whole_of, number_in_range, number_within}
 use Rattle.job_lines.specs.Length.{in_reach, size_of, is_size, signed_size_of, length_of}
@@ -28,6 +30,7 @@ use Rattle.nc_blocks.specs.Names.{upper, name_of}
 use Rattle.nc_blocks.specs.Statement.{BlockView}
 use Rattle.nc_syntax.specs.Blocks.{statement_of}
 use Rattle.tape_job.specs.Lines.{words, is_visible, begins_with_percent, text_of, before_comment}
+use Rattle.tape_job.specs.declared.draft.TheConstants.{VERSION}
 use Rattle.tape_job.specs.Reading as reading
 use Rattle.tape_job.specs.Reading.{ReadingView, DeclarationLine, Header, BlockLine}
 use Rattle.micro_units.specs.Position.{IsPosition}
@@ -69,9 +72,14 @@ number_sound : (low high : ℕ) (word : List ℕ) → IfSome (number_within low 
 unfolding number_within
 number_sound low high word = found_within low high (whole_of word)
 
-channel_sound : (word : List ℕ) → IfOk (declaration.channel_of word) (IsWithin 1 CHANNEL_LIMIT)
+no_higher : (low high limit : ℕ) (found : Option ℕ) → high ≤ limit → IfSome found (IsWithin low high) → IfSome found (IsWithin low limit)
+no_higher low high limit None few within = tt
+no_higher low high limit (Some number) few within = (within.0, omega (arith, within.1, few))
+
+channel_sound : (greatest : ℕ) → greatest ≤ CHANNEL_LIMIT → (word : List ℕ) → IfOk (declaration.channel_of greatest word) (IsWithin 1 CHANNEL_LIMIT)
 unfolding declaration.channel_of
-channel_sound word = or_ok (IsWithin 1 CHANNEL_LIMIT) OutOfRange (number_within 1 CHANNEL_LIMIT word) (number_sound 1 CHANNEL_LIMIT word)
+channel_sound greatest few word =
+    or_ok (IsWithin 1 CHANNEL_LIMIT) OutOfRange (number_within 1 greatest word) (no_higher 1 greatest CHANNEL_LIMIT (number_within 1 greatest word) few (number_sound 1 greatest word))
 
 zone_sound : (word : List ℕ) → IfOk (declaration.zone_of word) (IsWithin 1 ZONE_LIMIT)
 unfolding declaration.zone_of
@@ -171,75 +179,75 @@ IsSoundDeclaration (Depth depth) = depth ≤ 4
 IsSoundDeclaration (Budget budget) = IsWithin 1 100000000 budget
 IsSoundDeclaration declaration = ⊤
 
-channel_declaration_sound : (channel : List ℕ) (program : Option (List ℕ)) (starts : Bool) → (starts ≡ true → IsSome program) → IfOk (declaration.channel_declaration_of channel program starts) IsSoundDeclaration
+channel_declaration_sound : (greatest : ℕ) → greatest ≤ CHANNEL_LIMIT → (channel : List ℕ) (program : Option (List ℕ)) (starts : Bool) → (starts ≡ true → IsSome program) → IfOk (declaration.channel_declaration_of greatest channel program starts) IsSoundDeclaration
 unfolding declaration.channel_declaration_of
-channel_declaration_sound channel program starts named =
-    then_ok (IsWithin 1 CHANNEL_LIMIT) IsSoundDeclaration (declaration.channel_of channel) _ (channel_sound channel) (λ number range. (range, named))
+channel_declaration_sound greatest few channel program starts named =
+    then_ok (IsWithin 1 CHANNEL_LIMIT) IsSoundDeclaration (declaration.channel_of greatest channel) _ (channel_sound greatest few channel) (λ number range. (range, named))
 
-starting_declaration_sound : (channel program start : List ℕ) → IfOk (declaration.starting_declaration_of channel program start) IsSoundDeclaration
+starting_declaration_sound : (greatest : ℕ) → greatest ≤ CHANNEL_LIMIT → (channel program start : List ℕ) → IfOk (declaration.starting_declaration_of greatest channel program start) IsSoundDeclaration
 unfolding declaration.starting_declaration_of
-starting_declaration_sound channel program start =
-    if_ok IsSoundDeclaration (bytes_eq start (codes "START")) _ _ (λ _. channel_declaration_sound channel (Some (name_of program)) true (λ _. refl)) tt
+starting_declaration_sound greatest few channel program start =
+    if_ok IsSoundDeclaration (bytes_eq start (codes "START")) _ _ (λ _. channel_declaration_sound greatest few channel (Some (name_of program)) true (λ _. refl)) tt
 
-channel_line_sound : (args : List (List ℕ)) → IfOk (declaration.channel_line args) IsSoundDeclaration
+channel_line_sound : (greatest : ℕ) → greatest ≤ CHANNEL_LIMIT → (args : List (List ℕ)) → IfOk (declaration.channel_line greatest args) IsSoundDeclaration
 unfolding declaration.channel_line
-channel_line_sound (channel ∷ []) = channel_declaration_sound channel None false (λ starts. absurd cc)
-channel_line_sound (channel ∷ program ∷ []) = channel_declaration_sound channel (Some (name_of program)) false (λ starts. absurd cc)
-channel_line_sound (channel ∷ program ∷ start ∷ []) = starting_declaration_sound channel program start
-channel_line_sound args = tt
+channel_line_sound greatest few (channel ∷ []) = channel_declaration_sound greatest few channel None false (λ starts. absurd cc)
+channel_line_sound greatest few (channel ∷ program ∷ []) = channel_declaration_sound greatest few channel (Some (name_of program)) false (λ starts. absurd cc)
+channel_line_sound greatest few (channel ∷ program ∷ start ∷ []) = starting_declaration_sound greatest few channel program start
+channel_line_sound greatest few args = tt
 
-axis_declaration_sound : (name owner at : List ℕ) → IfOk (declaration.axis_declaration_of name owner at) IsSoundDeclaration
+axis_declaration_sound : (greatest : ℕ) (name owner at : List ℕ) → IfOk (declaration.axis_declaration_of greatest name owner at) IsSoundDeclaration
 unfolding declaration.axis_declaration_of
-axis_declaration_sound name owner at =
-    then_any IsSoundDeclaration (declaration.axis_name_of name) _ (λ n. then_any IsSoundDeclaration (declaration.owner_of owner) _ (λ o.
+axis_declaration_sound greatest name owner at =
+    then_any IsSoundDeclaration (declaration.axis_name_of name) _ (λ n. then_any IsSoundDeclaration (declaration.owner_of greatest owner) _ (λ o.
     then_ok IsPosition IsSoundDeclaration (length_of at) _ (length_sound at) (λ z near. near)))
 
-axis_line_sound : (args : List (List ℕ)) → IfOk (declaration.axis_line args) IsSoundDeclaration
+axis_line_sound : (greatest : ℕ) (args : List (List ℕ)) → IfOk (declaration.axis_line greatest args) IsSoundDeclaration
 unfolding declaration.axis_line
-axis_line_sound (name ∷ owner ∷ at ∷ []) = axis_declaration_sound name owner at
-axis_line_sound args = tt
+axis_line_sound greatest (name ∷ owner ∷ at ∷ []) = axis_declaration_sound greatest name owner at
+axis_line_sound greatest args = tt
 
-geo_declaration_sound : (channel slot axis : List ℕ) → IfOk (declaration.geo_declaration_of channel slot axis) IsSoundDeclaration
+geo_declaration_sound : (greatest : ℕ) (channel slot axis : List ℕ) → IfOk (declaration.geo_declaration_of greatest channel slot axis) IsSoundDeclaration
 unfolding declaration.geo_declaration_of
-geo_declaration_sound channel slot axis =
-    then_any IsSoundDeclaration (declaration.channel_of channel) _ (λ c. then_any IsSoundDeclaration (declaration.slot_of slot) _ (λ s.
+geo_declaration_sound greatest channel slot axis =
+    then_any IsSoundDeclaration (declaration.channel_of greatest channel) _ (λ c. then_any IsSoundDeclaration (declaration.slot_of slot) _ (λ s.
     then_any IsSoundDeclaration (declaration.axis_name_of axis) _ (λ a. tt)))
 
-geo_line_sound : (args : List (List ℕ)) → IfOk (declaration.geo_line args) IsSoundDeclaration
+geo_line_sound : (greatest : ℕ) (args : List (List ℕ)) → IfOk (declaration.geo_line greatest args) IsSoundDeclaration
 unfolding declaration.geo_line
-geo_line_sound (channel ∷ slot ∷ axis ∷ []) = geo_declaration_sound channel slot axis
-geo_line_sound args = tt
+geo_line_sound greatest (channel ∷ slot ∷ axis ∷ []) = geo_declaration_sound greatest channel slot axis
+geo_line_sound greatest args = tt
 
-offset_declaration_sound : (channel g slot by : List ℕ) → IfOk (declaration.offset_declaration_of channel g slot by) IsSoundDeclaration
+offset_declaration_sound : (greatest : ℕ) (channel g slot by : List ℕ) → IfOk (declaration.offset_declaration_of greatest channel g slot by) IsSoundDeclaration
 unfolding declaration.offset_declaration_of
-offset_declaration_sound channel g slot by =
-    then_any IsSoundDeclaration (declaration.channel_of channel) _ (λ c.
+offset_declaration_sound greatest channel g slot by =
+    then_any IsSoundDeclaration (declaration.channel_of greatest channel) _ (λ c.
     then_ok IsSettable IsSoundDeclaration (declaration.g_of g) _ (g_sound g) (λ w settable.
     then_ok (λ n. n < 3) IsSoundDeclaration (declaration.slot_of slot) _ (slot_sound slot) (λ s low.
     then_ok IsPosition IsSoundDeclaration (length_of by) _ (length_sound by) (λ l near. (settable, low, near)))))
 
-offset_line_sound : (args : List (List ℕ)) → IfOk (declaration.offset_line args) IsSoundDeclaration
+offset_line_sound : (greatest : ℕ) (args : List (List ℕ)) → IfOk (declaration.offset_line greatest args) IsSoundDeclaration
 unfolding declaration.offset_line
-offset_line_sound (channel ∷ g ∷ slot ∷ by ∷ []) = offset_declaration_sound channel g slot by
-offset_line_sound args = tt
+offset_line_sound greatest (channel ∷ g ∷ slot ∷ by ∷ []) = offset_declaration_sound greatest channel g slot by
+offset_line_sound greatest args = tt
 
-zone_declaration_sound : (zone group holder state cx lx hx cy ly hy cz lz hz : List ℕ)
-    → IfOk (declaration.zone_declaration_of zone group holder state cx lx hx cy ly hy cz lz hz) IsSoundDeclaration
+zone_declaration_sound : (greatest : ℕ) (zone group holder state cx lx hx cy ly hy cz lz hz : List ℕ)
+    → IfOk (declaration.zone_declaration_of greatest zone group holder state cx lx hx cy ly hy cz lz hz) IsSoundDeclaration
 unfolding declaration.zone_declaration_of
-zone_declaration_sound zone group holder state cx lx hx cy ly hy cz lz hz =
+zone_declaration_sound greatest zone group holder state cx lx hx cy ly hy cz lz hz =
     then_any IsSoundDeclaration (declaration.state_of state) _ (λ on.
     then_ok (IsWithin 1 ZONE_LIMIT) IsSoundDeclaration (declaration.zone_of zone) _ (zone_sound zone) (λ z zone_range.
     then_ok (IsWithin 1 ZONE_LIMIT) IsSoundDeclaration (declaration.zone_of group) _ (zone_sound group) (λ g group_range.
-    then_any IsSoundDeclaration (declaration.owner_of holder) _ (λ h.
+    then_any IsSoundDeclaration (declaration.owner_of greatest holder) _ (λ h.
     then_ok IsSoundSide IsSoundDeclaration (declaration.named_side_of cx lx hx) _ (side_sound cx lx hx) (λ x x_range.
     then_ok IsSoundSide IsSoundDeclaration (declaration.named_side_of cy ly hy) _ (side_sound cy ly hy) (λ y y_range.
     then_ok IsSoundSide IsSoundDeclaration (declaration.named_side_of cz lz hz) _ (side_sound cz lz hz) (λ w w_range.
     (zone_range, group_range, x_range, y_range, w_range))))))))
 
-zone_line_sound : (args : List (List ℕ)) → IfOk (declaration.zone_line args) IsSoundDeclaration
+zone_line_sound : (greatest : ℕ) (args : List (List ℕ)) → IfOk (declaration.zone_line greatest args) IsSoundDeclaration
 unfolding declaration.zone_line
-zone_line_sound (zone ∷ group ∷ holder ∷ state ∷ cx ∷ lx ∷ hx ∷ cy ∷ ly ∷ hy ∷ cz ∷ lz ∷ hz ∷ []) = zone_declaration_sound zone group holder state cx lx hx cy ly hy cz lz hz
-zone_line_sound args = tt
+zone_line_sound greatest (zone ∷ group ∷ holder ∷ state ∷ cx ∷ lx ∷ hx ∷ cy ∷ ly ∷ hy ∷ cz ∷ lz ∷ hz ∷ []) = zone_declaration_sound greatest zone group holder state cx lx hx cy ly hy cz lz hz
+zone_line_sound greatest args = tt
 
 job_line_sound : (args : List (List ℕ)) → IfOk (declaration.job_line args) IsSoundDeclaration
 unfolding declaration.job_line
@@ -310,14 +318,14 @@ option_declaration_sound kind args =
     (if_ok IsSoundDeclaration (bytes_eq kind (codes "COMPENSATION")) _ _ (λ _. compensation_line_sound args)
     (if_ok IsSoundDeclaration (bytes_eq kind (codes "SKIP")) _ _ (λ _. skip_line_sound args) tt))))
 
-declaration_sound : (kind : List ℕ) (args : List (List ℕ)) → IfOk (declaration.declaration_of kind args) IsSoundDeclaration
+declaration_sound : (greatest : ℕ) → greatest ≤ CHANNEL_LIMIT → (kind : List ℕ) (args : List (List ℕ)) → IfOk (declaration.declaration_of greatest kind args) IsSoundDeclaration
 unfolding declaration.declaration_of
-declaration_sound kind args =
-    if_ok IsSoundDeclaration (bytes_eq kind (codes "CHANNEL")) _ _ (λ _. channel_line_sound args)
-    (if_ok IsSoundDeclaration (bytes_eq kind (codes "AXIS")) _ _ (λ _. axis_line_sound args)
-    (if_ok IsSoundDeclaration (bytes_eq kind (codes "GEO")) _ _ (λ _. geo_line_sound args)
-    (if_ok IsSoundDeclaration (bytes_eq kind (codes "OFFSET")) _ _ (λ _. offset_line_sound args)
-    (if_ok IsSoundDeclaration (bytes_eq kind (codes "ZONE")) _ _ (λ _. zone_line_sound args)
+declaration_sound greatest few kind args =
+    if_ok IsSoundDeclaration (bytes_eq kind (codes "CHANNEL")) _ _ (λ _. channel_line_sound greatest few args)
+    (if_ok IsSoundDeclaration (bytes_eq kind (codes "AXIS")) _ _ (λ _. axis_line_sound greatest args)
+    (if_ok IsSoundDeclaration (bytes_eq kind (codes "GEO")) _ _ (λ _. geo_line_sound greatest args)
+    (if_ok IsSoundDeclaration (bytes_eq kind (codes "OFFSET")) _ _ (λ _. offset_line_sound greatest args)
+    (if_ok IsSoundDeclaration (bytes_eq kind (codes "ZONE")) _ _ (λ _. zone_line_sound greatest args)
     (if_ok IsSoundDeclaration (bytes_eq kind (codes "JOB")) _ _ (λ _. job_line_sound args) (option_declaration_sound kind args))))))
 
 -- what holds of what a line says that begins with '%' or not
@@ -329,7 +337,9 @@ IsSoundReading percent _ = ⊤
 entry_sound : (percent : Bool) (words : List (List ℕ)) → IfOk (reading.declaration_line words) (IsSoundReading percent)
 unfolding reading.declaration_line
 entry_sound percent [] = tt
-entry_sound percent (kind ∷ args) = then_ok IsSoundDeclaration (IsSoundReading percent) (declaration.declaration_of kind args) _ (declaration_sound kind args) (λ i sound. sound)
+entry_sound percent (kind ∷ args) =
+    let greatest : ℕ = (extent_of VERSION).channels in
+    then_ok IsSoundDeclaration (IsSoundReading percent) (declaration.declaration_of greatest kind args) _ (declaration_sound greatest (few_channels VERSION) kind args) (λ i sound. sound)
 
 header_sound : (words : List (List ℕ)) → IfOk (reading.header_line words) (IsSoundReading true)
 unfolding reading.header_line

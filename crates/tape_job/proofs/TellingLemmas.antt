@@ -17,7 +17,7 @@ use Rattle.tape_job.specs.declared.fault.JobFault.{JobFault}
 use Rattle.tape_job.specs.declared.fault.JobFault.TheVariants.{Refused, NoMemory}
 use Rattle.job_types.specs.Job.{JobView, ProgramView}
 use Rattle.tape_job.specs.Lines.{Line, has_token, begins_with_percent, raw_lines, text_of, before_comment}
-use Rattle.tape_job.specs.Told.{Told, facts_of, reading_under, reading_after, accept_compensation, says_compensation, says_skip, any_after, last_of, option_in, entries, axes_in, channel_from, axis_from, geo_from, offset_from, zone_from, margin_from, depth_from, budget_from, block_from, name_from, until_header, blocks_in, with_program, programs_in}
+use Rattle.tape_job.specs.Told.{Told, facts_of, reading_under, reading_after, accept_compensation, says_compensation, says_skip, any_after, last_of, option_in, job_line_in, entries, axes_in, job_line_from, channel_from, axis_from, geo_from, offset_from, zone_from, margin_from, depth_from, budget_from, block_from, name_from, until_header, blocks_in, with_program, programs_in}
 use Rattle.tape_job.specs.Read.{trial, first_trial, end_trial, answer, read_of, GivesRead}
 use Rattle.tape_job.specs.Steps.{with_entry, with_block_of, with_header, with_line, tell, unless_refused, run, finish, Tells}
 
@@ -98,6 +98,15 @@ value_push give d lines line =
 given_push : {A : Type 0} (give : Result ReadingView ℕ → Option A) (lines : List Line) (line : Line)
     → is_some (option_in give (lines ++ line ∷ [])) ≡ is_some (give (reading_after lines line.1)) || is_some (option_in give lines)
 given_push give lines line = ap is_some (option_push give lines line) ∙ some_either (give (reading_after lines line.1)) (option_in give lines)
+
+line_push : (d : ℕ) (lines : List Line) (line : Line)
+    → unwrap_or (job_line_in (lines ++ line ∷ [])) d ≡ unwrap_or (job_line_from line.0 (reading_after lines line.1)) (unwrap_or (job_line_in lines) d)
+line_push d lines line =
+    let entries_before : List ℕ = entries (λ before (l : Line). job_line_from l.0 (reading_after before l.1)) [] lines in
+    let last : job_line_in (lines ++ line ∷ []) ≡ option_or (job_line_from line.0 (reading_after lines line.1)) (job_line_in lines) =
+    ap last_of (entries_push (λ before (l : Line). job_line_from l.0 (reading_after before l.1)) [] lines line)
+    ∙ last_with_entry entries_before (job_line_from line.0 (reading_after lines line.1)) in
+    ap (λ o. unwrap_or o d) last ∙ unwrap_either (job_line_from line.0 (reading_after lines line.1)) (job_line_in lines) d
 
 -- no block accepts compensation, so that a line does so hangs on no line before it that does
 block_accepts_none : (read : Result BlockView ℕ) → says_compensation (block_line read) ≡ false
@@ -210,6 +219,7 @@ told-push lines line =
     rw (
       any_push (λ (l : Line). has_token l.1) lines line,
       any_push (λ (l : Line). begins_with_percent l.1) lines line,
+      line_push nothing_told.line lines line,
       entries_push (λ before (l : Line). channel_from l.0 (reading_after before l.1)) [] lines line,
       entries_push (λ before (l : Line). axis_from l.0 (reading_after before l.1)) [] lines line,
       entries_push (λ before (l : Line). geo_from (axes_in before) l.0 (reading_after before l.1)) [] lines line,

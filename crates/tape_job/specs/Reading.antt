@@ -10,6 +10,7 @@ use Rattle.block_scanner.specs.WordsView.{WordsView}
 use Rattle.job_lines.specs.Code.{◌>>=◌, refusal_code}
 use Rattle.job_lines.specs.Header.{header_of}
 use Rattle.job_lines.specs.Declaration.{declaration_of}
+use Rattle.job_lines.specs.Extent.{extent_of}
 use Rattle.job_lines.specs.declared.code.Code.{Code}
 use Rattle.job_lines.specs.declared.code.Code.TheVariants.{NoJobLine, LineTooLong, BadByte, UnknownJobLine, OpenText}
 use Rattle.job_lines.specs.declared.declaration.Declaration.{Declaration}
@@ -18,6 +19,7 @@ use Rattle.nc_blocks.specs.Indices.{StatementFits}
 use Rattle.nc_blocks.specs.Names.{upper}
 use Rattle.nc_blocks.specs.Statement.{BlockView, view_of}
 use Rattle.nc_syntax.specs.Blocks.{statement_of}
+use Rattle.tape_job.specs.declared.draft.TheConstants.{VERSION}
 use Rattle.tape_job.specs.declared.reading.LineFault.{LineFault}
 use Rattle.tape_job.specs.declared.reading.LineFault.TheVariants.{Broken, NoMemory}
 use Rattle.tape_job.specs.declared.reading.Reading.{Reading}
@@ -50,7 +52,7 @@ is_bad_byte byte = (nat_lt byte 32 && not (byte == 9)) || nat_lt 126 byte
 
 unfoldable pub declaration_line : List (List ℕ) → Result ReadingView Code
 declaration_line [] = Err UnknownJobLine
-declaration_line (kind ∷ args) = declaration_of kind args >>= (λ declaration. Ok (DeclarationLine declaration))
+declaration_line (kind ∷ args) = declaration_of (extent_of VERSION).channels kind args >>= (λ declaration. Ok (DeclarationLine declaration))
 
 unfoldable pub header_line : List (List ℕ) → Result ReadingView Code
 header_line words = header_of words >>= (λ name. Ok (Header name))

@@ -22,7 +22,7 @@ use Rattle.job_types.specs.Job.{JobView, ProgramView}
 use Rattle.tape_job.specs.Reading.{ReadingView, Blank, First, DeclarationLine, Header, BlockLine}
 use Rattle.job_types.specs.Zones.{is_carrier}
 use Rattle.job_types.specs.Axes.{axis_at}
-use Rattle.axis_sets.specs.declared.limits.TheConstants.{AXIS_LIMIT}
+use Rattle.job_lines.specs.Extent.{extent_of}
 use Rattle.job_lines.specs.declared.limits.TheConstants.{PROGRAM_LIMIT}
 
 -- the refusal of a line by a rule
@@ -80,7 +80,7 @@ unfoldable pub axis_rule : JobView → AxisName → Option ℕ → Option Code
 axis_rule job name owner =
     if not (has_owner job owner) then Some NotDeclared
     else if has_axis job name then Some DeclaredTwice
-    else if nat_le AXIS_LIMIT (length job.axes) then Some TooMany
+    else if nat_le (extent_of job.version).axes (length job.axes) then Some TooMany
     else None
 
 -- an axis may stand in slots of channels that do not own it

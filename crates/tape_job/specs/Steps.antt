@@ -13,7 +13,7 @@ use Rattle.tape_job.specs.declared.draft.GivenOptions.{GivenOptions}
 use Rattle.job_types.specs.Job.{JobView, ProgramView}
 use Rattle.tape_job.specs.Lines.{Line, has_token, begins_with_percent}
 use Rattle.tape_job.specs.Reading.{ReadingView, reading_view, reading_of}
-use Rattle.tape_job.specs.Told.{Told, channel_from, axis_from, geo_from, offset_from, zone_from, margin_from, depth_from, budget_from, says_compensation, says_skip, block_from, name_from}
+use Rattle.tape_job.specs.Told.{Told, job_line_from, channel_from, axis_from, geo_from, offset_from, zone_from, margin_from, depth_from, budget_from, says_compensation, says_skip, block_from, name_from}
 use Rattle.tape_job.specs.Read.{line_trial, trial, end_trial, answer}
 use Rattle.tape_job.specs.Rules.{rule_of, has_program, structure_fault}
 
@@ -39,6 +39,9 @@ with_header programs number (Some name) = programs ++ (name, record { line = num
 -- the job with what one more line says
 unfoldable pub with_line : JobView → ℕ → Result ReadingView ℕ → JobView
 with_line job number reading = record {
+  version = job.version;
+  number = job.number;
+  line = unwrap_or (job_line_from number reading) job.line;
   channels = with_entry job.channels (channel_from number reading);
   axes = with_entry job.axes (axis_from number reading);
   geo = with_entry job.geo (geo_from job.axes number reading);

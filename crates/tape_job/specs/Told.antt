@@ -15,7 +15,7 @@ use Rattle.tape_job.specs.Draft.{nothing_told}
 use Rattle.tape_job.specs.declared.draft.GivenOptions.{GivenOptions}
 use Rattle.job_types.specs.Job.{JobView, ProgramView}
 use Rattle.tape_job.specs.Lines.{Line, has_token, begins_with_percent}
-use Rattle.tape_job.specs.Reading.{ReadingView, DeclarationLine, Header, BlockLine, reading_of}
+use Rattle.tape_job.specs.Reading.{ReadingView, First, DeclarationLine, Header, BlockLine, reading_of}
 use Rattle.tape_job.specs.Rules.{axis_of, side_of}
 
 -- what lines have told: whether one has a token, whether one begins with '%', where the programs begin, which options lines gave, and the job so far
@@ -63,6 +63,10 @@ last_of (x ∷ []) = Some x
 last_of (x ∷ y ∷ xs) = last_of (y ∷ xs)
 
 -- what a line of the input tells by what it says
+abbrev pub job_line_from : ℕ → Result ReadingView ℕ → Option ℕ
+job_line_from number (Ok First) = Some number
+job_line_from number reading = None
+
 abbrev pub channel_from : ℕ → Result ReadingView ℕ → Option ChannelLine
 channel_from number (Ok (DeclarationLine (Channel channel program starts))) = Some (record { line = number; channel = channel; program = program; starts = starts })
 channel_from number reading = None
@@ -139,6 +143,10 @@ axes_in lines = entries (λ before line. axis_from line.0 (reading_after before 
 abbrev pub option_in : {A : Type 0} → (Result ReadingView ℕ → Option A) → List Line → Option A
 option_in give lines = last_of (entries (λ before line. give (reading_after before line.1)) [] lines)
 
+-- the line of the job line
+abbrev pub job_line_in : List Line → Option ℕ
+job_line_in lines = last_of (entries (λ before line. job_line_from line.0 (reading_after before line.1)) [] lines)
+
 unfoldable pub facts_of : List Line → Told
 facts_of lines = record {
   seen = list_any (λ line. has_token line.1) lines;
@@ -149,6 +157,9 @@ facts_of lines = record {
     budget = is_some (option_in budget_from lines);
   };
   job = record {
+    version = nothing_told.version;
+    number = nothing_told.number;
+    line = unwrap_or (job_line_in lines) nothing_told.line;
     channels = entries (λ before line. channel_from line.0 (reading_after before line.1)) [] lines;
     axes = axes_in lines;
     geo = entries (λ before line. geo_from (axes_in before) line.0 (reading_after before line.1)) [] lines;

@@ -201,7 +201,11 @@ impl Draft {
         ensures listed { IfErr result FaultIsListed }
     {
         match reading {
-            Reading::Blank | Reading::First => Ok(()),
+            Reading::Blank => Ok(()),
+            Reading::First => {
+                self.job.line = line;
+                Ok(())
+            }
             Reading::DeclarationLine(declaration) => {
                 self.add_declaration(line, declaration)?;
                 Ok(())

@@ -1,10 +1,14 @@
 //! A job whose lines are being read.
 use crate::programs::Library;
 use indexmap::IndexMap;
+use job_lines::FIRST_VERSION;
 use job_types::Job;
 use micro_units::Um;
 use std::alloc::{AllocError, Global};
 use std::marker::Model;
+
+/// The version of the job lists that are read.
+pub(crate) const VERSION: u8 = FIRST_VERSION;
 
 /// Which options lines gave.
 #[derive(Clone, Copy, PartialEq, Eq)]
@@ -56,6 +60,9 @@ impl Draft {
                 budget: false,
             },
             job: Job {
+                version: VERSION,
+                number: 1,
+                line: 0,
                 channels: Vec::new(alloc),
                 axes: Vec::new(alloc),
                 geo: Vec::new(alloc),

@@ -7,9 +7,10 @@ ghost use Rattle.nc_blocks.specs.Names.{upper};
 ghost use Rattle.nc_syntax.specs.Blocks.{statement_of};
 ghost use Rattle.tape_job.specs.Reading.{is_job_line, is_bad_byte, declaration_line, header_line, form_of, entry_reading, block_line, block_reading, with_shown, reading_of, GivesForm, Gives, reading_view, ReadingFits, FaultIsListed};
 
+use crate::draft::VERSION;
 use crate::lines::{before_comment, begins_with_percent, is_visible, text_in, upper_in, words_of};
 use block_scanner::{ScanFault, Words, scan};
-use job_lines::{Code, Declaration, declaration_in, header_in};
+use job_lines::{Code, Declaration, Extent, declaration_in, header_in};
 use nc_blocks::{Block, NameText};
 use nc_expressions::SyntaxFault;
 use nc_syntax::statement;
@@ -96,7 +97,10 @@ fn declaration_line_in(words: &[&[u8]]) -> Result<Reading, Code>
     ensures fits { IfOk result (λ reading. ReadingFits (reading_view reading)) }
 {
     match words {
-        [kind, args @ ..] => Ok(Reading::DeclarationLine(declaration_in(kind, args)?)),
+        [kind, args @ ..] => {
+            let greatest = Extent::of(VERSION).channels as u8;
+            Ok(Reading::DeclarationLine(declaration_in(greatest, kind, args)?))
+        }
         [] => Err(Code::UnknownJobLine),
     }
 }

@@ -4,8 +4,8 @@ ghost use Rattle.std.specs.Option.{option_copied};
 ghost use Rattle.tape_job.specs.Rules.{is_named, is_same_owner, is_owned_line, side_with, same_axis, option_rule};
 
 use crate::draft::Draft;
-use axis_sets::{AXIS_LIMIT, AxisId, ChannelId, ZoneId};
-use job_lines::{AxisName, Code, Declaration, NamedSide, NamedZone};
+use axis_sets::{AxisId, ChannelId, ZoneId};
+use job_lines::{AxisName, Code, Declaration, Extent, NamedSide, NamedZone};
 use job_types::{AxisLine, Side, axis_at};
 
 /// Whether the axis has this name.
@@ -187,7 +187,7 @@ impl Draft {
             Some(Code::NotDeclared)
         } else if self.has_axis(name) {
             Some(Code::DeclaredTwice)
-        } else if self.job.axes.len() >= AXIS_LIMIT {
+        } else if self.job.axes.len() >= Extent::of(self.job.version).axes {
             Some(Code::TooMany)
         } else {
             None

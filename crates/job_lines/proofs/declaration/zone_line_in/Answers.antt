@@ -3,13 +3,13 @@ use Rattle.std.proofs.Common.{◌≡◌, ℕ, ◌<◌, ◌≤◌, List, [], ◌�
 use Rattle.job_lines.specs.Declaration.{zone_declaration_of, zone_line}
 use Rattle.job_lines.proofs.declaration.zone_line_in.Goals as goal
 
-thirteen : (args : List (Bor (List ℕ))) (d : Bor (List ℕ)) → 13 ≤ length args → length args < 14
-    → zone_declaration_of (get_or args 0 d).now (get_or args 1 d).now (get_or args 2 d).now (get_or args 3 d).now (get_or args 4 d).now (get_or args 5 d).now (get_or args 6 d).now
+thirteen : (greatest : ℕ) (args : List (Bor (List ℕ))) (d : Bor (List ℕ)) → 13 ≤ length args → length args < 14
+    → zone_declaration_of greatest (get_or args 0 d).now (get_or args 1 d).now (get_or args 2 d).now (get_or args 3 d).now (get_or args 4 d).now (get_or args 5 d).now (get_or args 6 d).now
     (get_or args 7 d).now (get_or args 8 d).now (get_or args 9 d).now (get_or args 10 d).now (get_or args 11 d).now (get_or args 12 d).now
-    ≡ zone_line (map (λ word. word.now) args)
+    ≡ zone_line greatest (map (λ word. word.now) args)
 unfolding zone_line
-thirteen (zone ∷ group ∷ holder ∷ state ∷ cx ∷ lx ∷ hx ∷ cy ∷ ly ∷ hy ∷ cz ∷ lz ∷ hz ∷ []) d least most = refl
-thirteen args d least most = absurd (omega arith)
+thirteen greatest (zone ∷ group ∷ holder ∷ state ∷ cx ∷ lx ∷ hx ∷ cy ∷ ly ∷ hy ∷ cz ∷ lz ∷ hz ∷ []) d least most = refl
+thirteen greatest args d least most = absurd (omega arith)
 
 pub returns-in-len13 : goal.returns-in-len13
-returns-in-len13 c = rw c.zone_declaration_in.ensures (thirteen c.args.args.now _ c.in-len13.len_at_least c.in-len13.len_below)
+returns-in-len13 c = rw c.zone_declaration_in.ensures (thirteen c.args.greatest c.args.args.now _ c.in-len13.len_at_least c.in-len13.len_below)
