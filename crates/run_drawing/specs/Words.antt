@@ -1,5 +1,5 @@
 -- Meaning. The words of a drawing: what a reader of it is told of boxes, ways and blocks.
-use Rattle.std.specs.Prelude.{ℕ, ℤ, ◌+◌, ◌==◌, Bool, List, [], ◌∷◌, ◌++◌, if◌then◌else◌, drop, find, Option, None, Some, codes}
+use Rattle.std.specs.Prelude.{ℕ, ℤ, ◌+◌, ◌==◌, Bool, List, [], ◌∷◌, ◌++◌, if◌then◌else◌, drop, take, find, Option, None, Some, codes}
 use Rattle.std.specs.Fmt.{decimal}
 use Rattle.std.specs.List.{position}
 use Rattle.std.specs.Option.{option_map_or}
@@ -12,20 +12,25 @@ use Rattle.picture_views.specs.Marks.{along}
 use Rattle.picture_views.specs.Shown.{shown_text}
 use Rattle.picture_views.specs.declared.shapes.Tile.{Tile}
 use Rattle.picture_views.specs.declared.shapes.Track.{Track}
+use Rattle.run_drawing.specs.declared.words.TheConstants.{NUMBER_LIMIT, TEXT_LIMIT}
 use Rattle.sync_types.specs.declared.verdicts.PlaceName.{PlaceName}
 use Rattle.told_places.specs.Lines.{channel_text, number_text, of_text, program_name}
 
 -- the number of a line, and that of its block
 unfoldable pub number_words : List ℕ → ℕ → List ℕ
-number_words input line = codes "line " ++ (decimal line ++ number_text (block_number_of (line_text input line)))
+number_words input line = codes "line " ++ (decimal line ++ number_text (take NUMBER_LIMIT (block_number_of (line_text input line))))
 
 -- the same with its program
 unfoldable pub line_words : List ℕ → JobView → ℕ → List ℕ
 line_words input job line = number_words input line ++ of_text (program_name job line)
 
+-- a text of the input, as far as it is shown
+unfoldable pub front_text : List ℕ → List ℕ
+front_text text = shown_text (take TEXT_LIMIT text)
+
 -- and how the line reads
 unfoldable pub block_words : List ℕ → JobView → ℕ → List ℕ
-block_words input job line = line_words input job line ++ (codes ": " ++ shown_text (line_text input line))
+block_words input job line = line_words input job line ++ (codes ": " ++ front_text (line_text input line))
 
 -- who holds a zone
 unfoldable pub holder_words : Option ℕ → List ℕ
@@ -83,7 +88,7 @@ comment_of text = option_map_or (λ place. drop (place + 1) text) (position is_s
 -- a comment after a name, if there is one
 unfoldable pub comment_words : List ℕ → List ℕ
 comment_words [] = []
-comment_words (byte ∷ bytes) = codes ": " ++ shown_text (byte ∷ bytes)
+comment_words (byte ∷ bytes) = codes ": " ++ front_text (byte ∷ bytes)
 
 -- a zone, and the comment of its ZONE line
 unfoldable pub zone_label : List ℕ → ZoneLine → List ℕ

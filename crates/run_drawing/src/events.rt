@@ -1,27 +1,16 @@
 //! What the channels do in their lanes, and the spans that the verdict names.
-ghost use Rattle.std.specs.Prelude.{◌≡◌, ◌++◌, flat_map, take};
+ghost use Rattle.std.specs.Prelude.{◌≡◌, ◌++◌, flat_map};
 ghost use Rattle.run_drawing.specs.Space.{hover_text};
 ghost use Rattle.run_drawing.specs.Times as model;
 
 use crate::times::{Lanes, is_wait};
-use crate::words::{first_semicolon, put_block, put_name, put_zone};
+use crate::words::{first_semicolon, front, put_block, put_name, put_zone};
 use axis_sets::ChannelId;
 use growing_text::Text;
 use input_lines::Lines;
 use picture_views::{Deed, Moment, Picture, Span, put_ends, put_place, put_round, put_shown};
 use sync_types::Verdict;
 use told_places::Told;
-
-/// The first so many bytes of a text.
-fn front(text: &[u8], count: usize) -> &[u8]
-    ensures { result.now ≡ take count text.now }
-{
-    if count < text.len() {
-        &text[..count]
-    } else {
-        text
-    }
-}
 
 /// What stands before the first semicolon of a line.
 #[tactic(auto, unfolding(crate::specs::Times::code_of))]

@@ -1,5 +1,5 @@
 //! The words of a drawing: what a reader of it is told of boxes, ways and blocks.
-ghost use Rattle.std.specs.Prelude.{◌≡◌, ◌++◌};
+ghost use Rattle.std.specs.Prelude.{◌≡◌, ◌++◌, take};
 ghost use Rattle.std.specs.List.{position};
 ghost use Rattle.told_places.specs.Lines.{number_text, of_text};
 ghost use Rattle.run_drawing.specs.Words as model;
@@ -11,6 +11,31 @@ use job_types::{Job, ZoneLine};
 use picture_views::{Tile, Track, along, put_shown};
 use sync_types::PlaceName;
 use told_places::{Told, program_name, say_channel};
+
+/// Up to how many bytes of a line or of a comment are shown at each place, so that a drawing stays small.
+const TEXT_LIMIT: usize = 200;
+
+/// Up to how many bytes of a block number.
+const NUMBER_LIMIT: usize = 24;
+
+/// The first so many bytes of a text.
+pub(crate) fn front(text: &[u8], count: usize) -> &[u8]
+    ensures { result.now ≡ take count text.now }
+{
+    if count < text.len() {
+        &text[..count]
+    } else {
+        text
+    }
+}
+
+/// Writes a text of the input, as far as it is shown.
+#[tactic(auto, unfolding(crate::specs::Words::front_text))]
+fn put_front(text: &mut Text, part: &[u8])
+    ensures { text.new ≡ text.old ++ model.front_text part.now }
+{
+    put_shown(text, front(part, TEXT_LIMIT));
+}
 
 /// Writes the number of a block, if it has one.
 #[tactic(auto, unfolding(told_places::specs::Lines::number_text))]
@@ -42,7 +67,7 @@ fn put_line_number(text: &mut Text, lines: &Lines, line: u32)
 {
     text.say("line ");
     text.number(u64::from(line));
-    put_block_number(text, block_number(lines.text(line)));
+    put_block_number(text, front(block_number(lines.text(line)), NUMBER_LIMIT));
 }
 
 /// Writes the number of a line, that of its block, and its program.
@@ -61,7 +86,7 @@ pub(crate) fn put_block(text: &mut Text, told: &Told, line: u32)
 {
     put_line(text, told, line);
     text.say(": ");
-    put_shown(text, told.lines.text(line));
+    put_front(text, told.lines.text(line));
 }
 
 /// Writes who holds a zone.
@@ -213,7 +238,7 @@ fn put_comment(text: &mut Text, comment: &[u8])
 {
     if !comment.is_empty() {
         text.say(": ");
-        put_shown(text, comment);
+        put_front(text, comment);
     }
 }
 
