@@ -1,9 +1,13 @@
 -- Meaning. The events of steps, and which of them are one.
-use Rattle.std.specs.Prelude.{◌≡◌, ℕ, zero, suc, ◌≤◌, ◌==◌, ◌&&◌, ◌⊎◌, Bool, true, false, List, [], ◌∷◌, ◌++◌, map, filter, Option, Some, None}
+use Rattle.std.specs.Prelude.{◌≡◌, ℕ, zero, suc, ◌≤◌, ◌==◌, ◌&&◌, ◌⊎◌, Bool, true, false, not, if◌then◌else◌, List, [], ◌∷◌, ◌++◌, map, filter, Option, Some, None}
 use Rattle.sync_types.specs.Boards.{State, IsHolding, AtMarks, Board, among}
 use Rattle.sync_types.specs.GoingOn.{Going}
 use Rattle.sync_types.specs.Turns.{Move, goings_in_step, after_step}
 use Rattle.sync_types.specs.declared.runs.EventId.{EventId}
+
+-- the two are the same name of an event: of one step, of one channel, and both an act or both a going on
+abbrev pub is_same_event : EventId → EventId → Bool
+is_same_event a b = (a.step == b.step) && ((a.channel == b.channel) && (if a.go then b.go else not b.go))
 
 -- who acts in the step of this place
 abbrev pub actor_at : List Move → ℕ → Option ℕ

@@ -58,6 +58,41 @@ impl Model for Run {
     } };
 }
 
+impl Run {
+    ghost use Rattle.std.specs.Prelude.{◌≡◌, [], map, slice_index_or};
+
+    /// The steps of the run, in order.
+    pub fn entries(&self) -> &[Entry]
+        ensures { result.now ≡ self.now.entries }
+    {
+        self.entries.as_slice()
+    }
+
+    /// For each entry of the run what its channel did before that step.
+    pub fn items(&self) -> &[Vec<Item>]
+        ensures { map (λ items. items.items) result.now ≡ self.now.items }
+    {
+        self.items.as_slice()
+    }
+
+    /// What the channel of the entry at `place`, counted from 0, did before its step; nothing past the last entry.
+    pub fn items_at(&self, place: usize) -> &[Item]
+        ensures { result.now ≡ slice_index_or self.now.items place [] }
+    {
+        match self.items.get(place) {
+            None => &[],
+            Some(items) => items.as_slice(),
+        }
+    }
+
+    /// For each channel of the job how it has stopped, the lowest channel first.
+    pub fn ends(&self) -> &[ChannelEnd]
+        ensures { result.now ≡ self.now.ends }
+    {
+        self.ends.as_slice()
+    }
+}
+
 /// An event of a run: what a channel does in a step, or that it goes on in that step.
 #[derive(Clone, Copy, PartialEq, Eq)]
 pub struct EventId {
@@ -67,6 +102,20 @@ pub struct EventId {
     pub channel: ChannelId,
     /// Whether the channel goes on.
     pub go: bool,
+}
+
+impl EventId {
+    ghost use Rattle.std.specs.Prelude.{◌≡◌};
+    ghost use Rattle.sync_types.specs.Events.{is_same_event};
+
+    /// Whether this name and `other` are letter by letter the same name of an event.
+    pub fn is_same(&self, other: &EventId) -> bool
+        ensures { result ≡ is_same_event self.now other.now }
+    {
+        self.step == other.step
+            && self.channel.number == other.channel.number
+            && (if self.go { other.go } else { !other.go })
+    }
 }
 
 /// Two places of a run whose order the programs do not settle.
