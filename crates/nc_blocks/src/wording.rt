@@ -23,7 +23,7 @@ use g_groups::GWord;
 use micro_units::Num;
 use nc_expressions::{Expr, SyntaxFault};
 use std::alloc::{AllocError, Global};
-use word_tables::{group_word_by_name, group_word_by_number, is_first_name};
+use word_tables::{group_word_by_name, group_word_by_number};
 
 /// `=` and an expression, and the place after.
 #[tactic(auto, using(crate::proofs::Passing::passing), unfolding(crate::specs::Wording::assigned_at))]
