@@ -21,6 +21,7 @@ use crate::texts::{address, same_text, unquoted, upper_text};
 use block_scanner::Words;
 use g_groups::GWord;
 use micro_units::Num;
+use name_tables::is_first_name;
 use nc_expressions::{Expr, SyntaxFault};
 use std::alloc::{AllocError, Global};
 use word_tables::{group_word_by_name, group_word_by_number};

@@ -3,6 +3,7 @@ use Rattle.std.proofs.Common.{◌≡◌, ℕ, ◌+◌, List, [], ◌∷◌, Bool
 use Rattle.std.specs.Prelude.{◌||◌, ◌++◌, is_some, if◌then◌else◌}
 use Rattle.std.specs.List.{list_any}
 use Rattle.std.specs.Option.{option_or}
+use Rattle.std.proofs.lemmas.List.Folds.{list_any-append}
 use Rattle.g_groups.specs.declared.GWord.{GWord}
 use Rattle.g_groups.specs.Groups.{Spelling, Group, code_of, groups}
 use Rattle.name_tables.specs.Tables.{is_group_name}
@@ -28,22 +29,13 @@ abbrev words_of : List Group → List Spelling
 words_of [] = []
 words_of (group ∷ more) = group.words ++ words_of more
 
-or_all : (a b c : Bool) → ((a || b) || c) ≡ (a || (b || c))
-or_all true b c = refl
-or_all false b c = refl
-
-any_of_both : (test : Spelling → Bool) (one other : List Spelling) → (list_any test one || list_any test other) ≡ list_any test (one ++ other)
-any_of_both test [] other = refl
-any_of_both test (word ∷ words) other =
-    or_all (test word) (list_any test words) (list_any test other) ∙ ap (λ b. test word || b) (any_of_both test words other)
-
 some_in : (test : Spelling → Bool) (rows : List Group) → is_some (word_in test rows) ≡ list_any test (words_of rows)
 some_in test [] = refl
 some_in test (group ∷ more) =
     some_or (word_among test group.number 1 group.words) (word_in test more)
     ∙ ap (λ b. b || is_some (word_in test more)) (some_among test group.number 1 group.words)
     ∙ ap (λ b. list_any test group.words || b) (some_in test more)
-    ∙ any_of_both test group.words (words_of more)
+    ∙ sym (list_any-append test group.words (words_of more))
 
 -- the table of groups has a word with a name exactly where the name is in the list of names
 pub word_is_listed : (text : List ℕ) → is_some (word_by_name text) ≡ is_group_name text
