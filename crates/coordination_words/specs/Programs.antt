@@ -1,8 +1,8 @@
 -- Meaning. The program that a text in INIT names.
 use Rattle.std.specs.Prelude.{ℕ, ◌-◌, ◌==◌, ◌&&◌, ◌||◌, nat_le, Bool, if◌then◌else◌, List, length, take, drop, reverse, position, codes, Option, Some, None}
 use Rattle.std.specs.Str.{bytes_eq}
-use Rattle.nc_blocks.specs.Names.{name_of}
-use Rattle.nc_blocks.specs.declared.limits.TheConstants.{NAME_LIMIT}
+use Rattle.nc_expressions.specs.NameTexts.{name_of}
+use Rattle.nc_expressions.specs.declared.limits.TheConstants.{NAME_LIMIT}
 use Rattle.nc_expressions.specs.Symbols.{is_word}
 
 -- so many bytes at the end of a text, or all of it where no number is given

@@ -9,7 +9,7 @@ use Rattle.job_lines.specs.declared.declaration.AxisName.{AxisName}
 use Rattle.job_lines.specs.declared.declaration.NamedSide.{NamedSide}
 use Rattle.job_lines.specs.declared.declaration.Declaration.{Declaration}
 use Rattle.job_lines.specs.declared.declaration.Declaration.TheVariants.{Channel, Axis, Geo, Offset, Zone}
-use Rattle.nc_blocks.specs.Names.{name_of}
+use Rattle.nc_expressions.specs.NameTexts.{name_of}
 use Rattle.job_lines.specs.Code.{◌>>=◌, or_code}
 use Rattle.job_lines.specs.Numbers.{number_within}
 use Rattle.job_lines.specs.Length.{length_of}

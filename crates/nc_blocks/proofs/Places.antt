@@ -12,7 +12,7 @@ use Rattle.block_scanner.specs.declared.Sign.{Sign}
 use Rattle.block_scanner.specs.declared.Sign.TheVariants as sign
 use Rattle.std.proofs.lemmas.Option.{slice_get_read, slice_get_past}
 use Rattle.std.proofs.lemmas.List.{get_or_default}
-use Rattle.nc_blocks.specs.declared.limits.TheConstants.{NAME_LIMIT}
+use Rattle.nc_expressions.specs.declared.limits.TheConstants.{NAME_LIMIT}
 use Rattle.block_scanner.specs.declared.Token.{Token}
 use Rattle.block_scanner.specs.WordsView.{WordsView}
 use Rattle.block_scanner.specs.Texts.{text_of}

@@ -4,7 +4,7 @@ use Rattle.std.specs.Prelude.{IfErr, ◌==◌}
 use Rattle.std.specs.List.{list_all, list_any}
 use Rattle.block_scanner.specs.declared.Token.{Token}
 use Rattle.block_scanner.specs.WordsView.{WordsView}
-use Rattle.word_tables.specs.Tables.{is_first_name}
+use Rattle.name_tables.specs.Tables.{is_first_name}
 use Rattle.nc_expressions.specs.declared.faults.SyntaxFault.{SyntaxFault}
 use Rattle.nc_expressions.specs.declared.faults.SyntaxFault.TheVariants.{Refused, NoMemory}
 use Rattle.nc_expressions.specs.declared.symbols.Symbol.{Symbol}

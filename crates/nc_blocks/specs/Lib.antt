@@ -1,4 +1,3 @@
-pub mod Names
 pub mod Texts
 pub mod Pieces
 pub mod Marks

@@ -1,7 +1,7 @@
 -- Meaning. Signs and names that a form wants at a place, and what comes at its end.
 use Rattle.std.specs.Prelude.{ℕ, ◌+◌, Bool, ◌&&◌, List, Result, Ok, Err, if◌then◌else◌}
 use Rattle.block_scanner.specs.WordsView.{WordsView}
-use Rattle.word_tables.specs.Tables.{is_first_name}
+use Rattle.name_tables.specs.Tables.{is_first_name}
 use Rattle.nc_expressions.specs.Symbols.{is_word}
 use Rattle.nc_blocks.specs.declared.pieces.Piece.{Piece}
 use Rattle.nc_blocks.specs.declared.pieces.Piece.TheVariants as piece

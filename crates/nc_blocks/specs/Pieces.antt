@@ -12,7 +12,7 @@ use Rattle.nc_expressions.specs.declared.symbols.Symbol.TheVariants as symbol
 use Rattle.nc_expressions.specs.Symbols.{symbols_of}
 use Rattle.nc_blocks.specs.declared.pieces.Piece.{Piece}
 use Rattle.nc_blocks.specs.declared.pieces.Piece.TheVariants as piece
-use Rattle.nc_blocks.specs.declared.limits.TheConstants.{NAME_LIMIT}
+use Rattle.nc_expressions.specs.declared.limits.TheConstants.{NAME_LIMIT}
 
 unfoldable pub sign_piece : Sign → Piece
 sign_piece sign.Plus = piece.Plus

@@ -12,7 +12,7 @@ use Rattle.nc_expressions.specs.Tree.{Tree, tree_of}
 use Rattle.nc_blocks.specs.declared.pieces.Piece.{Piece}
 use Rattle.nc_blocks.specs.declared.pieces.Piece.TheVariants as piece
 use Rattle.nc_blocks.specs.Pieces.{piece_at, text_at}
-use Rattle.nc_blocks.specs.Names.{name_of}
+use Rattle.nc_expressions.specs.NameTexts.{name_of}
 use Rattle.nc_blocks.specs.Marks.{word_code}
 
 -- the answer shows what is read, or has its refusal, or memory ran out

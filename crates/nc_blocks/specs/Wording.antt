@@ -4,14 +4,14 @@ use Rattle.std.specs.Ordering.{int_eq}
 use Rattle.block_scanner.specs.WordsView.{WordsView}
 use Rattle.g_groups.specs.declared.GWord.{GWord}
 use Rattle.word_tables.specs.GroupWords.{word_by_number, word_by_name}
-use Rattle.word_tables.specs.Tables.{is_first_name}
+use Rattle.name_tables.specs.Tables.{is_first_name}
 use Rattle.nc_expressions.specs.Symbols.{is_word}
 use Rattle.nc_expressions.specs.Tree.{Tree, Number}
 use Rattle.nc_blocks.specs.declared.blocks.Measure.{Measure}
 use Rattle.nc_blocks.specs.declared.blocks.Measure.TheVariants.{Modal, Absolute, Incremental}
 use Rattle.nc_blocks.specs.declared.pieces.Piece.{Piece}
 use Rattle.nc_blocks.specs.declared.pieces.Piece.TheVariants as piece
-use Rattle.nc_blocks.specs.Names.{upper}
+use Rattle.nc_expressions.specs.NameTexts.{upper}
 use Rattle.nc_blocks.specs.Pieces.{piece_at, text_at, is_text, is_assign, is_end}
 use Rattle.nc_blocks.specs.Marks.{word_code, assign_at, open_at, close_at, close_bracket_at, is_keyword}
 use Rattle.nc_expressions.specs.Value.{◌>>=◌}

@@ -1,8 +1,7 @@
 //! Blocks.
 
-use crate::names::NameText;
 use micro_units::Num;
-use nc_expressions::Expr;
+use nc_expressions::{Expr, NameText};
 
 /// A block of a part program: one line.
 #[derive(Debug, Drop)]

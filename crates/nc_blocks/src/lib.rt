@@ -6,7 +6,6 @@ mod axis_names;
 mod blocks;
 mod limits;
 mod marks;
-mod names;
 mod pieces;
 mod reading;
 mod texts;
@@ -15,11 +14,11 @@ mod wording;
 
 pub use axis_names::{has_axis_name, has_axis_word};
 pub use blocks::{Block, CoordWord, FrameWord, JumpTo, Measure, Operand, Stmt, Target, Way, Word};
-pub use limits::{NAME_LIMIT, PASS_LIMIT};
+pub use limits::PASS_LIMIT;
 pub use marks::{
     assign_at, close_at, code_at, comma_at, end_at, is_keyword, is_word, keyword_at, open_at,
 };
-pub use names::NameText;
+pub use nc_expressions::{NAME_LIMIT, NameText};
 pub use pieces::{Piece, piece_at, text_at};
 pub use reading::{block_number_at, constant_at, expression_at, index_at, label_at};
 pub use texts::{address, same_text, unquoted};

@@ -8,7 +8,7 @@ ghost use Rattle.nc_blocks.specs.Marks.{code_at, word_code, end_at, assign_at, o
 
 use crate::pieces::{Piece, piece_at, text_at};
 use block_scanner::Words;
-use word_tables::is_first_name;
+use name_tables::is_first_name;
 
 /// Whether a text is a word, in upper or lower case.
 pub fn is_word(text: &[u8], word: &[u8]) -> bool

@@ -6,10 +6,9 @@ ghost use Rattle.micro_units.specs.NumberText.{number_of};
 ghost use Rattle.nc_expressions.specs.Symbols.{number_symbol};
 ghost use Rattle.nc_blocks.specs.Pieces.{sign_piece, number_piece, plain_piece, piece_of, is_end, is_read_by_kind, piece_at, text_at, Stands};
 
-use crate::limits::NAME_LIMIT;
 use block_scanner::{Kind, Sign, Token, Words};
 use micro_units::Num;
-use nc_expressions::{Symbol, symbol_at};
+use nc_expressions::{NAME_LIMIT, Symbol, symbol_at};
 
 /// What stands at a place of a line.
 #[derive(Clone, Copy)]

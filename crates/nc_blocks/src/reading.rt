@@ -9,11 +9,10 @@ ghost use Rattle.nc_blocks.specs.Reading.{Gives, placed_tree, expression_at, val
 ghost use Rattle.nc_expressions.specs.declared.limits.TheConstants.{LAST_PARAMETER};
 
 use crate::marks::word_code;
-use crate::names::NameText;
 use crate::pieces::{Piece, piece_at, text_at};
 use block_scanner::Words;
 use micro_units::Num;
-use nc_expressions::{Expr, SyntaxFault, expr_stop, index_of, is_digits, parse_expr};
+use nc_expressions::{Expr, NameText, SyntaxFault, expr_stop, index_of, is_digits, parse_expr};
 use std::alloc::Global;
 
 /// The expression at a place, and the place after it; or the refusal of the leftmost place at which

@@ -1,7 +1,7 @@
 //! Texts and addresses that a block keeps.
 
 ghost use Rattle.std.specs.Prelude.{◌≡◌, ◌∷◌, IfOk};
-ghost use Rattle.nc_blocks.specs.Names.{upper};
+ghost use Rattle.nc_expressions.specs.NameTexts.{upper};
 ghost use Rattle.nc_blocks.specs.Texts.{text_within_quotes};
 
 use std::alloc::{AllocError, Global};

@@ -21,9 +21,10 @@ use crate::texts::{address, same_text, unquoted, upper_text};
 use block_scanner::Words;
 use g_groups::GWord;
 use micro_units::Num;
+use name_tables::is_first_name;
 use nc_expressions::{Expr, SyntaxFault};
 use std::alloc::{AllocError, Global};
-use word_tables::{group_word_by_name, group_word_by_number, is_first_name};
+use word_tables::{group_word_by_name, group_word_by_number};
 
 /// `=` and an expression, and the place after.
 #[tactic(auto, using(crate::proofs::Passing::passing), unfolding(crate::specs::Wording::assigned_at))]

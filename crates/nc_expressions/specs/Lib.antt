@@ -2,6 +2,7 @@ pub mod Fronts
 pub mod Levels
 pub mod Limits
 pub mod Machine
+pub mod NameTexts
 pub mod Parsing
 pub mod Stack
 pub mod Symbols

@@ -1,4 +1,7 @@
-//! How far expressions go.
+//! How far expressions go, and how long names are.
+
+/// How many bytes a name has at most.
+pub const NAME_LIMIT: usize = 32;
 
 /// How many parentheses may be open.
 pub const PARENTHESIS_LIMIT: usize = 32;

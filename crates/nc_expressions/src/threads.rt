@@ -1,6 +1,6 @@
 //! The types whose values may go to another thread, and that threads may share.
 
-use crate::Expr;
+use crate::{Expr, NameText};
 
 /// Asks this of a type, and does nothing: each call is proved.
 fn crosses_threads<T: Send + Sync>() {}
@@ -8,4 +8,5 @@ fn crosses_threads<T: Send + Sync>() {}
 /// Asks it of each of them.
 fn types_cross_threads() {
     crosses_threads::<Expr>();
+    crosses_threads::<NameText>();
 }

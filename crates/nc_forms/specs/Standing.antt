@@ -9,7 +9,7 @@ use Rattle.nc_blocks.specs.Pieces.{piece_at, text_at}
 use Rattle.nc_blocks.specs.Marks.{is_keyword}
 use Rattle.nc_blocks.specs.Reading.{whole}
 use Rattle.nc_blocks.specs.AxisNames.{is_axis_letter}
-use Rattle.nc_blocks.specs.Names.{name_of}
+use Rattle.nc_expressions.specs.NameTexts.{name_of}
 
 -- this name stands there
 abbrev pub IsKeyword : WordsView → ℕ → List ℕ → Type 0

@@ -9,7 +9,7 @@ use Rattle.nc_blocks.specs.declared.blocks.Target.{Target}
 use Rattle.nc_blocks.specs.declared.blocks.Target.TheVariants as target
 use Rattle.nc_blocks.specs.declared.pieces.Piece.{Piece}
 use Rattle.nc_blocks.specs.declared.pieces.Piece.TheVariants as piece
-use Rattle.nc_blocks.specs.Names.{name_of}
+use Rattle.nc_expressions.specs.NameTexts.{name_of}
 use Rattle.nc_blocks.specs.Pieces.{piece_at, text_at, is_name}
 use Rattle.nc_blocks.specs.Reading.{block_number_at, Gives}
 use Rattle.nc_blocks.specs.declared.blocks.Block.{Block}

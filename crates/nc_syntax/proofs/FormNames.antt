@@ -6,7 +6,8 @@ use Rattle.std.specs.Str.{str_to_ascii_lowercase}
 use Rattle.block_scanner.specs.WordsView.{WordsView}
 use Rattle.g_groups.specs.declared.GWord.{GWord}
 use Rattle.word_tables.specs.GroupWords.{word_by_name}
-use Rattle.word_tables.specs.Tables.{is_control_name, is_frame_name, is_coordination_name, is_message_name, is_first_name, is_inner_name, is_table_word}
+use Rattle.word_tables.proofs.GroupNames.{word_is_listed}
+use Rattle.name_tables.specs.Tables.{is_control_name, is_frame_name, is_coordination_name, is_message_name, is_first_name, is_inner_name, is_group_name, is_table_word}
 use Rattle.nc_expressions.specs.Symbols.{is_word}
 use Rattle.nc_blocks.specs.declared.blocks.CoordWord.TheVariants as coord
 use Rattle.nc_blocks.specs.declared.blocks.FrameWord.TheVariants as frame
@@ -14,7 +15,7 @@ use Rattle.nc_blocks.specs.declared.blocks.Way.{Way}
 use Rattle.nc_blocks.specs.declared.blocks.Way.TheVariants.{Forward, Backward, Either, Optional}
 use Rattle.nc_blocks.specs.declared.pieces.Piece.{Piece}
 use Rattle.nc_blocks.specs.declared.pieces.Piece.TheVariants as piece
-use Rattle.nc_blocks.specs.Names.{name_of}
+use Rattle.nc_expressions.specs.NameTexts.{name_of}
 use Rattle.nc_blocks.specs.Pieces.{piece_at, text_at}
 use Rattle.nc_blocks.specs.Wording.{is_spindle_word, words_form}
 use Rattle.nc_syntax.specs.declared.bodies.Control.TheVariants as control
@@ -356,7 +357,7 @@ inner_word text k h i n =
 group_word_name : (text : List ℕ) (w : GWord) → word_by_name text ≡ Some w → (form_of text ≡ None) × (is_table_word text ≡ true)
 unfolding is_table_word
 group_word_name text w h =
-    let some : is_some (word_by_name text) ≡ true = ap is_some h in (
+    let some : is_group_name text ≡ true = sym (word_is_listed text) ∙ ap is_some h in (
       none_of (form_of text) (λ f e. let no : true ≡ false = sym (form_found text f e) ∙ not_in_group text (form_name f) w h (no_group f) in cc),
       or_left _ _ (or_right _ _ some),
     )

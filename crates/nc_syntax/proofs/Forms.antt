@@ -12,7 +12,7 @@ use Rattle.nc_blocks.specs.declared.blocks.Target.TheVariants as target
 use Rattle.nc_blocks.specs.declared.blocks.Way.{Way}
 use Rattle.nc_blocks.specs.declared.pieces.Piece.{Piece}
 use Rattle.nc_blocks.specs.declared.pieces.Piece.TheVariants as piece
-use Rattle.nc_blocks.specs.Names.{name_of}
+use Rattle.nc_expressions.specs.NameTexts.{name_of}
 use Rattle.nc_blocks.specs.Pieces.{piece_at, text_at, is_name}
 use Rattle.nc_blocks.specs.Marks as marks
 use Rattle.nc_blocks.specs.Marks.{code_of, code_at, end_at, assign_at, comma_of, comma_at, is_keyword, keyword_at}

@@ -6,14 +6,14 @@ use Rattle.std.proofs.lemmas.List.{drop_more, drop_all}
 use Rattle.block_scanner.specs.declared.Kind.TheVariants as kind
 use Rattle.block_scanner.specs.declared.Token.{Token}
 use Rattle.block_scanner.specs.WordsView.{WordsView}
-use Rattle.word_tables.specs.Tables.{is_table_word}
+use Rattle.name_tables.specs.Tables.{is_table_word}
 use Rattle.nc_expressions.specs.Value.{◌>>=◌}
 use Rattle.nc_expressions.specs.Symbols.{is_digits}
 use Rattle.nc_blocks.specs.declared.blocks.CoordWord.{CoordWord}
 use Rattle.nc_blocks.specs.declared.blocks.CoordWord.TheVariants as coord
 use Rattle.nc_blocks.specs.declared.pieces.Piece.{Piece}
 use Rattle.nc_blocks.specs.declared.pieces.Piece.TheVariants as piece
-use Rattle.nc_blocks.specs.Names.{name_of}
+use Rattle.nc_expressions.specs.NameTexts.{name_of}
 use Rattle.nc_blocks.specs.Pieces.{piece_at, text_at}
 use Rattle.nc_blocks.specs.Reading.{whole, block_number, block_number_at}
 use Rattle.nc_blocks.specs.Statement.{Statement, BlockView, Else, EndIf, While, EndWhile, Until, Loop, EndLoop, EndFor, Return, Message}

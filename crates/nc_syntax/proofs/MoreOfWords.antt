@@ -10,7 +10,7 @@ use Rattle.nc_expressions.specs.Tree.{Tree}
 use Rattle.nc_expressions.specs.Value.{◌>>=◌}
 use Rattle.nc_blocks.specs.declared.pieces.Piece.{Piece}
 use Rattle.nc_blocks.specs.declared.pieces.Piece.TheVariants as piece
-use Rattle.nc_blocks.specs.Names.{upper}
+use Rattle.nc_expressions.specs.NameTexts.{upper}
 use Rattle.nc_blocks.specs.Pieces.{piece_at, text_at, is_assign, is_text}
 use Rattle.nc_blocks.specs.Marks.{word_code, assign_at}
 use Rattle.nc_blocks.specs.Reading.{value_at, after_sign, constant_at}

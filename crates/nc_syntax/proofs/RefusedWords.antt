@@ -10,7 +10,7 @@ use Rattle.block_scanner.specs.Texts.{text_of}
 use Rattle.micro_units.specs.NumberText.{number_of}
 use Rattle.word_tables.specs.GroupWords.{small_whole}
 use Rattle.word_tables.specs.Refused.{refused_g, refused_whole, refused_value, refused_before, refused_following, refused_kind, refused_word}
-use Rattle.word_tables.specs.RefusedNames.{refused_name}
+use Rattle.name_tables.specs.RefusedNames.{refused_name}
 use Rattle.nc_blocks.specs.Refusals.{block_refusals, IsBlockRefusal}
 
 -- a word that is refused has a code of a block

@@ -2,7 +2,7 @@
 use Rattle.std.proofs.Common.{◌≡◌, ℕ, zero, suc, List, [], ◌∷◌, refl, ◌∙◌, Option, Some, None, Bool, true, false, arith}
 use Rattle.std.specs.Prelude.{codes, ◌==◌, ◌&&◌, nat_le, length}
 use Rattle.block_scanner.specs.WordsView.{WordsView}
-use Rattle.word_tables.specs.Tables.{is_table_word}
+use Rattle.name_tables.specs.Tables.{is_table_word}
 use Rattle.nc_expressions.specs.declared.symbols.Symbol.TheVariants as symbol
 use Rattle.nc_expressions.specs.Symbols.{is_digits, name_symbol, value_symbol, is_exponent}
 use Rattle.nc_blocks.specs.declared.blocks.CoordWord.{CoordWord}

@@ -12,7 +12,7 @@ use Rattle.nc_blocks.specs.declared.blocks.Measure.{Measure}
 use Rattle.nc_blocks.specs.declared.blocks.Measure.TheVariants.{Modal, Absolute, Incremental}
 use Rattle.nc_blocks.specs.declared.pieces.Piece.{Piece}
 use Rattle.nc_blocks.specs.declared.pieces.Piece.TheVariants as piece
-use Rattle.nc_blocks.specs.Names.{upper}
+use Rattle.nc_expressions.specs.NameTexts.{upper}
 use Rattle.nc_blocks.specs.Texts.{text_within_quotes}
 use Rattle.nc_blocks.specs.Pieces.{piece_at, text_at, is_assign, is_name}
 use Rattle.nc_blocks.specs.Marks.{word_code, assign_at, close_bracket_at, is_keyword}

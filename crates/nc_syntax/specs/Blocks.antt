@@ -5,7 +5,7 @@ use Rattle.word_tables.specs.Refused.{refused_word}
 use Rattle.word_tables.specs.LargeNumbers.{has_large_number}
 use Rattle.nc_blocks.specs.declared.pieces.Piece.{Piece}
 use Rattle.nc_blocks.specs.declared.pieces.Piece.TheVariants as piece
-use Rattle.nc_blocks.specs.Names.{name_of}
+use Rattle.nc_expressions.specs.NameTexts.{name_of}
 use Rattle.nc_blocks.specs.Pieces.{piece_at, text_at, is_name}
 use Rattle.nc_expressions.specs.Value.{◌>>=◌}
 use Rattle.nc_blocks.specs.Reading.{block_number_at}

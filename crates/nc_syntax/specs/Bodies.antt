@@ -2,7 +2,7 @@
 use Rattle.std.specs.Prelude.{ℕ, ◌+◌, ◌==◌, ◌&&◌, Bool, true, false, List, Option, Some, None, Result, Ok, if◌then◌else◌, codes}
 use Rattle.std.specs.Option.{option_or}
 use Rattle.block_scanner.specs.WordsView.{WordsView}
-use Rattle.word_tables.specs.Tables.{is_table_word}
+use Rattle.name_tables.specs.Tables.{is_table_word}
 use Rattle.nc_expressions.specs.Symbols.{is_word}
 use Rattle.nc_blocks.specs.declared.blocks.CoordWord.TheVariants as coord
 use Rattle.nc_blocks.specs.declared.blocks.FrameWord.TheVariants as frame
@@ -13,7 +13,7 @@ use Rattle.nc_syntax.specs.declared.bodies.Form.{Form}
 use Rattle.nc_syntax.specs.declared.bodies.Form.TheVariants as form
 use Rattle.nc_blocks.specs.declared.pieces.Piece.{Piece}
 use Rattle.nc_blocks.specs.declared.pieces.Piece.TheVariants as piece
-use Rattle.nc_blocks.specs.Names.{name_of}
+use Rattle.nc_expressions.specs.NameTexts.{name_of}
 use Rattle.nc_blocks.specs.Pieces.{piece_at, text_at}
 use Rattle.nc_expressions.specs.Value.{◌>>=◌}
 use Rattle.nc_syntax.specs.Jumps.{way_of, jump_form, if_form, case_form}

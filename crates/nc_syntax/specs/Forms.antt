@@ -1,7 +1,7 @@
 -- Law. What each form wants after its name, and what the tokens before a place leave wanted.
 use Rattle.std.specs.Prelude.{ℕ, zero, suc, nat_le, ◌==◌, Bool, true, false, ◌&&◌, List, [], ◌∷◌, ◌++◌, length, Option, Some, None, codes}
 use Rattle.block_scanner.specs.WordsView.{WordsView}
-use Rattle.word_tables.specs.Tables.{is_table_word}
+use Rattle.name_tables.specs.Tables.{is_table_word}
 use Rattle.nc_expressions.specs.Symbols.{is_digits}
 use Rattle.nc_blocks.specs.declared.blocks.CoordWord.{CoordWord}
 use Rattle.nc_blocks.specs.declared.blocks.CoordWord.TheVariants as coord

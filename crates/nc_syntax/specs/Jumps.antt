@@ -10,7 +10,7 @@ use Rattle.nc_blocks.specs.declared.blocks.Way.{Way}
 use Rattle.nc_blocks.specs.declared.blocks.Way.TheVariants.{Forward, Backward, Either, Optional}
 use Rattle.nc_blocks.specs.declared.pieces.Piece.{Piece}
 use Rattle.nc_blocks.specs.declared.pieces.Piece.TheVariants as piece
-use Rattle.nc_blocks.specs.Names.{name_of}
+use Rattle.nc_expressions.specs.NameTexts.{name_of}
 use Rattle.nc_blocks.specs.Pieces.{piece_at, text_at}
 use Rattle.nc_blocks.specs.Marks.{end_at, open_at, close_at, is_keyword, keyword_at}
 use Rattle.nc_expressions.specs.Value.{◌>>=◌}

@@ -3,7 +3,7 @@ use Rattle.std.specs.Prelude.{◌≡◌, ℕ, ℤ, pos, ◌+◌, ◌*◌, ◌≤
 use Rattle.block_scanner.specs.WordsView.{WordsView}
 use Rattle.word_tables.specs.LargeNumbers.{has_large_number}
 use Rattle.word_tables.specs.Refused.{refused_word}
-use Rattle.word_tables.specs.Tables.{is_table_word}
+use Rattle.name_tables.specs.Tables.{is_table_word}
 use Rattle.nc_expressions.specs.Symbols.{is_digits}
 use Rattle.nc_expressions.specs.Tree.{Tree}
 use Rattle.nc_blocks.specs.declared.blocks.JumpTo.{JumpTo}

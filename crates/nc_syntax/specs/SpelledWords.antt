@@ -6,7 +6,7 @@ use Rattle.nc_expressions.specs.Tree.{Tree, Number}
 use Rattle.nc_blocks.specs.declared.blocks.Measure.{Measure}
 use Rattle.nc_blocks.specs.declared.blocks.Measure.TheVariants.{Modal, Absolute, Incremental}
 use Rattle.nc_blocks.specs.declared.pieces.Piece.TheVariants as piece
-use Rattle.nc_blocks.specs.Names.{upper}
+use Rattle.nc_expressions.specs.NameTexts.{upper}
 use Rattle.nc_blocks.specs.Pieces.{piece_at, text_at}
 use Rattle.nc_blocks.specs.Texts.{text_within_quotes}
 use Rattle.nc_blocks.specs.Wording.{is_slot_letter, is_centre_letter, is_aux_letter, is_program_end, is_spindle_word}

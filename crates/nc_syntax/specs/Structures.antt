@@ -6,7 +6,7 @@ use Rattle.nc_expressions.specs.Symbols.{is_digits}
 use Rattle.nc_expressions.specs.Tree.{Tree}
 use Rattle.nc_blocks.specs.declared.pieces.Piece.{Piece}
 use Rattle.nc_blocks.specs.declared.pieces.Piece.TheVariants as piece
-use Rattle.nc_blocks.specs.Names.{name_of}
+use Rattle.nc_expressions.specs.NameTexts.{name_of}
 use Rattle.nc_blocks.specs.Pieces.{piece_at, text_at, is_name}
 use Rattle.nc_blocks.specs.Marks.{code_at, end_at, assign_at, is_keyword, keyword_at}
 use Rattle.nc_expressions.specs.Value.{◌>>=◌}

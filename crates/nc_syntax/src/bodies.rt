@@ -13,6 +13,7 @@ use crate::structures::{
     repeat_form,
 };
 use block_scanner::Words;
+use name_tables::is_table_word;
 use nc_blocks::{
     CoordWord, FrameWord, NameText, Piece, Stmt, Way, is_word, piece_at, text_at, words_form,
 };
@@ -21,7 +22,6 @@ use nc_forms::{
     alone, coordination_form, msg_form, setms_form, shape_form, turn_form, workpiece_form,
 };
 use std::alloc::Global;
-use word_tables::is_table_word;
 
 /// A control word that is no jump.
 #[derive(Clone, Copy)]

@@ -36,7 +36,7 @@ use Rattle.tape_job.specs.Reading.{BlockLine, block_line, block_reading, reading
 use Rattle.tape_job.proofs.ReadingLemmas.{block_from_scan}
 use Rattle.word_tables.specs.LargeNumbers as large
 use Rattle.word_tables.specs.Refused as refused
-use Rattle.word_tables.specs.RefusedNames.{refused_name}
+use Rattle.name_tables.specs.RefusedNames.{refused_name}
 use Rattle.sample_laws.proofs.Numbers.{IsShort}
 use Rattle.sample_laws.proofs.Scans.{digit_apart, first_move, second_move, first_tokens, second_tokens}
 use Rattle.sample_laws.proofs.Moves.{move_block, first_words, second_words, first_block, second_block}

@@ -26,7 +26,7 @@ use Rattle.job_lines.proofs.ExtentLaws.{few_channels}
 use Rattle.job_lines.specs.OptionLines as option
 use Rattle.job_lines.specs.Numbers.{whole_of, number_in_range, number_within}
 use Rattle.job_lines.specs.Length.{in_reach, size_of, is_size, signed_size_of, length_of}
-use Rattle.nc_blocks.specs.Names.{upper, name_of}
+use Rattle.nc_expressions.specs.NameTexts.{upper, name_of}
 use Rattle.nc_blocks.specs.Statement.{BlockView}
 use Rattle.nc_syntax.specs.Blocks.{statement_of}
 use Rattle.tape_job.specs.Lines.{words, is_visible, begins_with_percent, text_of, before_comment}

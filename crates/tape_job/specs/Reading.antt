@@ -16,7 +16,7 @@ use Rattle.job_lines.specs.declared.code.Code.TheVariants.{NoJobLine, LineTooLon
 use Rattle.job_lines.specs.declared.declaration.Declaration.{Declaration}
 use Rattle.fault_codes.specs.Codes.{IsRefusalCode}
 use Rattle.nc_blocks.specs.Indices.{StatementFits}
-use Rattle.nc_blocks.specs.Names.{upper}
+use Rattle.nc_expressions.specs.NameTexts.{upper}
 use Rattle.nc_blocks.specs.Statement.{BlockView, view_of}
 use Rattle.nc_syntax.specs.Blocks.{statement_of}
 use Rattle.tape_job.specs.declared.draft.TheConstants.{VERSION}

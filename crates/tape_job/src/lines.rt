@@ -2,7 +2,7 @@
 ghost use Rattle.std.specs.Prelude.{◌≡◌, ◌<◌, ◌≤◌, true, IfOk, IfSome, map, length, position};
 ghost use Rattle.block_scanner.specs.Bytes.{is_semicolon};
 ghost use Rattle.block_scanner.specs.LineParts.{first_of};
-ghost use Rattle.nc_blocks.specs.Names.{upper};
+ghost use Rattle.nc_expressions.specs.NameTexts.{upper};
 ghost use Rattle.tape_job.specs.Lines.{is_feed, IsFirstLine, text_of, before_comment, words, is_visible, has_token, begins_with_percent, is_bare};
 
 use block_scanner::is_blank;

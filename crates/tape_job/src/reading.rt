@@ -3,7 +3,7 @@ ghost use Rattle.std.specs.Prelude.{◌≡◌, ◌≤◌, ◌==◌, map, length,
 ghost use Rattle.std.specs.List.{list_any};
 ghost use Rattle.job_lines.specs.Code.{refusal_code};
 ghost use Rattle.block_scanner.specs.Scanned.{IsScanned};
-ghost use Rattle.nc_blocks.specs.Names.{upper};
+ghost use Rattle.nc_expressions.specs.NameTexts.{upper};
 ghost use Rattle.nc_syntax.specs.Blocks.{statement_of};
 ghost use Rattle.tape_job.specs.Reading.{is_job_line, is_bad_byte, declaration_line, header_line, form_of, entry_reading, block_line, block_reading, with_shown, reading_of, GivesForm, Gives, reading_view, ReadingFits, FaultIsListed};
 

@@ -1,3 +1,4 @@
+pub mod GroupNames
 pub mod Lines
 pub mod NumberRows
 pub mod ShortNumbers

@@ -3,7 +3,7 @@ use Rattle.std.specs.Prelude.{ℕ, ◌+◌, ◌*◌, ◌/◌, ◌%◌, ◌==◌,
 use Rattle.std.specs.Option.{option_or}
 use Rattle.g_groups.specs.declared.GWord.{GWord}
 use Rattle.g_groups.specs.Groups.{Spelling, g, name, Group, code_of, groups}
-use Rattle.word_tables.specs.Spelling.{is_word}
+use Rattle.name_tables.specs.Spelling.{is_word}
 use Rattle.g_groups.specs.declared.numbers.TheConstants.{CODE_LIMIT}
 
 -- the first of a group's words that passes a test, where they stand from a place on

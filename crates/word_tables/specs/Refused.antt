@@ -8,7 +8,7 @@ use Rattle.block_scanner.specs.declared.Token.{Token}
 use Rattle.block_scanner.specs.Texts.{text_of}
 use Rattle.micro_units.specs.NumberText.{number_of}
 use Rattle.word_tables.specs.GroupWords.{small_whole, g_word}
-use Rattle.word_tables.specs.RefusedNames.{refused_name}
+use Rattle.name_tables.specs.RefusedNames.{refused_name}
 
 -- with tool radius compensation, or without it, the code of this number after G
 unfoldable pub refused_g : Bool → ℕ → Option ℕ

@@ -1,9 +1,9 @@
 //! The words of the table of groups.
 
-ghost use Rattle.std.specs.Prelude.{◌≡◌, ◌<◌, ◌&&◌, nat_le, position, IfSome};
+ghost use Rattle.std.specs.Prelude.{◌≡◌, ◌<◌, ◌&&◌, nat_le, position, is_some, IfSome};
+ghost use Rattle.name_tables.specs.Tables.{is_group_name};
 ghost use Rattle.word_tables.specs.GroupWords.{small_whole, g_word, word_by_number, word_by_name};
 
-use crate::spelling::is_word;
 use g_groups::{
     ACCELERATION_GROUP, APPROACH_GROUP, AREA_GROUP, AREA_SWITCH_GROUP, BLOCK_GROUP, BRISK,
     CODE_LIMIT, CORNER_GROUP, DIAM90, DIAMETER_GROUP, DIAMOF, DIAMON, DIMENSION_GROUP, DWELL_GROUP,
@@ -12,6 +12,7 @@ use g_groups::{
     STOP_WIDTH_GROUP, SUPA, UNIT_GROUP, WALIMOF, WALIMON,
 };
 use micro_units::Num;
+use name_tables::is_word;
 
 /// The numbers after G that are words of groups: the group, and the first and the last of numbers
 /// in a row.
@@ -93,9 +94,18 @@ fn row_of(code: u16) -> Option<usize>
 }
 
 /// The word with this name, in upper or lower case, or none where the table of groups has no such
-/// word.
-#[tactic(auto, unfolding(crate::specs::GroupWords::word_by_name))]
+/// word. The names of its words are those that `name_tables` has as names of groups.
+#[tactic(auto, using(crate::proofs::GroupNames::word_is_listed))]
 pub fn group_word_by_name(text: &[u8]) -> Option<GWord>
+    ensures value { result ≡ word_by_name text.now }
+    ensures listed { is_some result ≡ is_group_name text.now }
+{
+    word_named(text)
+}
+
+/// The word of the table of groups with this name.
+#[tactic(auto, unfolding(crate::specs::GroupWords::word_by_name))]
+fn word_named(text: &[u8]) -> Option<GWord>
     ensures { result ≡ word_by_name text.now }
 {
     if is_word(text, b"RTLION") {

@@ -9,9 +9,9 @@ ghost use Rattle.word_tables.specs.Refused.{refused_g, refused_kind, refused_who
 ghost use Rattle.g_groups.specs.declared.numbers.TheConstants.{CODE_LIMIT};
 
 use crate::group_words::{small_whole, word_with};
-use crate::refused_names::refused_name;
 use block_scanner::{Kind, Sign, Token, Words};
 use micro_units::Num;
+use name_tables::refused_name;
 
 /// The code of the leftmost refused word of a line, 40 to 57, or none where the line has none.
 ///

@@ -1,8 +1,7 @@
 -- Meaning. The names that stand in some table.
 use Rattle.std.specs.Prelude.{ℕ, Bool, ◌||◌, List, [], ◌∷◌, is_some, codes}
-use Rattle.word_tables.specs.Spelling.{is_one_of}
-use Rattle.word_tables.specs.GroupWords.{word_by_name}
-use Rattle.word_tables.specs.RefusedNames.{refused_name}
+use Rattle.name_tables.specs.Spelling.{is_one_of}
+use Rattle.name_tables.specs.RefusedNames.{refused_name}
 
 -- jumps, branches, loops and the choice
 unfoldable pub is_control_name : List ℕ → Bool
@@ -43,7 +42,13 @@ is_expression_name text = is_one_of text
     (codes "DIV" ∷ codes "MOD" ∷ codes "AND" ∷ codes "OR" ∷ codes "XOR" ∷ codes "NOT" ∷ codes "TRUE" ∷ codes "FALSE"
     ∷ codes "ABS" ∷ codes "POT" ∷ codes "SQRT" ∷ codes "TRUNC" ∷ codes "ROUND" ∷ [])
 
+-- names of the words of groups
+unfoldable pub is_group_name : List ℕ → Bool
+is_group_name text = is_one_of text
+    (codes "RTLION" ∷ codes "RTLIOF" ∷ codes "SUPA" ∷ codes "NORM" ∷ codes "KONT" ∷ codes "BRISK" ∷ codes "SOFT" ∷ codes "FFWON"
+    ∷ codes "FFWOF" ∷ codes "WALIMON" ∷ codes "WALIMOF" ∷ codes "DIAMON" ∷ codes "DIAMOF" ∷ codes "DIAM90" ∷ [])
+
 -- a name that stands in no table may be called as a program
 unfoldable pub is_table_word : List ℕ → Bool
 is_table_word text =
-    is_first_name text || is_inner_name text || is_expression_name text || is_some (word_by_name text) || is_some (refused_name text)
+    is_first_name text || is_inner_name text || is_expression_name text || is_group_name text || is_some (refused_name text)

@@ -1,4 +1,4 @@
-//! Names of labels and programs.
+//! Names, as those of labels and programs.
 
 use crate::limits::NAME_LIMIT;
 use arrayvec::ArrayVec;
@@ -23,7 +23,7 @@ impl Model for NameText {
 
 impl NameText {
     ghost use Rattle.std.specs.Prelude.{◌≡◌, ◌<◌, ◌≤◌, ◌∷◌, length};
-    ghost use Rattle.nc_blocks.specs.Names.{name_of};
+    ghost use Rattle.nc_expressions.specs.NameTexts.{name_of};
 
     /// The name that has the letters of a word in upper case, of its first `NAME_LIMIT` bytes where it is
     /// longer.

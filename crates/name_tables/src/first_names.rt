@@ -1,9 +1,8 @@
 //! The names that stand in some table.
 
 ghost use Rattle.std.specs.Prelude.{◌≡◌};
-ghost use Rattle.word_tables.specs.Tables.{is_control_name, is_frame_name, is_coordination_name, is_message_name, is_first_name, is_inner_name, is_expression_name, is_table_word};
+ghost use Rattle.name_tables.specs.Tables.{is_control_name, is_frame_name, is_coordination_name, is_message_name, is_first_name, is_inner_name, is_expression_name, is_group_name, is_table_word};
 
-use crate::group_words::group_word_by_name;
 use crate::refused_names::refused_name;
 use crate::spelling::is_one_of;
 
@@ -15,7 +14,7 @@ pub fn is_table_word(text: &[u8]) -> bool
     is_first_name(text)
         || is_inner_name(text)
         || is_expression_name(text)
-        || group_word_by_name(text).is_some()
+        || is_group_name(text)
         || refused_name(text).is_some()
 }
 
@@ -120,6 +119,20 @@ fn is_expression_name(text: &[u8]) -> bool
         &[
             b"DIV", b"MOD", b"AND", b"OR", b"XOR", b"NOT", b"TRUE", b"FALSE", b"ABS", b"POT",
             b"SQRT", b"TRUNC", b"ROUND",
+        ],
+    )
+}
+
+/// Names of the words of groups.
+#[tactic(auto, unfolding(crate::specs::Tables::is_group_name))]
+fn is_group_name(text: &[u8]) -> bool
+    ensures { result ≡ is_group_name text.now }
+{
+    is_one_of(
+        text,
+        &[
+            b"RTLION", b"RTLIOF", b"SUPA", b"NORM", b"KONT", b"BRISK", b"SOFT", b"FFWON", b"FFWOF",
+            b"WALIMON", b"WALIMOF", b"DIAMON", b"DIAMOF", b"DIAM90",
         ],
     )
 }

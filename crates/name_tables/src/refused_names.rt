@@ -1,13 +1,13 @@
 //! The names that are refused.
 
 ghost use Rattle.std.specs.Prelude.{◌≡◌};
-ghost use Rattle.word_tables.specs.RefusedNames.{refused_name};
+ghost use Rattle.name_tables.specs.RefusedNames.{refused_name};
 
 use crate::spelling::{is_cycle, is_one_of, is_word};
 
-/// The code of a name that is refused.
+/// The code of a name that is refused, 40 to 57, or none.
 #[tactic(auto, unfolding(crate::specs::RefusedNames::refused_name))]
-pub(crate) fn refused_name(text: &[u8]) -> Option<u16>
+pub fn refused_name(text: &[u8]) -> Option<u16>
     ensures { result ≡ refused_name text.now }
 {
     if is_one_of(

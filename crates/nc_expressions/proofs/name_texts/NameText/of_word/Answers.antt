@@ -1,8 +1,8 @@
 -- At the loop's end all bytes of the front are pushed, and the front is the first 32 bytes of the word.
 use Rattle.std.proofs.Common.{◌≡◌, ◌∙◌, ap, ◌≤◌, ℕ, List, length, take, min, arith}
 use Rattle.std.proofs.lemmas.List.{take_all, take_min}
-use Rattle.nc_blocks.specs.Names.{upper}
-use Rattle.nc_blocks.proofs.names.NameText.of_word.Goals as goal
+use Rattle.nc_expressions.specs.NameTexts.{upper}
+use Rattle.nc_expressions.proofs.name_texts.NameText.of_word.Goals as goal
 
 front : (at cut : ℕ) (word : List ℕ) → cut ≡ min (length word) 32 → length (take cut word) ≤ at → take at (take cut word) ≡ take 32 word
 front at cut word is reached =

@@ -1,7 +1,7 @@
 -- Meaning. Names in upper case.
 use Rattle.std.specs.Prelude.{ℕ, List, map, take}
 use Rattle.std.specs.Char.{to_ascii_uppercase}
-use Rattle.nc_blocks.specs.declared.limits.TheConstants.{NAME_LIMIT}
+use Rattle.nc_expressions.specs.declared.limits.TheConstants.{NAME_LIMIT}
 
 abbrev pub upper : List ℕ → List ℕ
 upper text = map to_ascii_uppercase text

@@ -1,6 +1,6 @@
 -- Meaning. The names that are refused, each with its code.
 use Rattle.std.specs.Prelude.{ℕ, ◌||◌, if◌then◌else◌, List, [], ◌∷◌, Option, Some, None, codes}
-use Rattle.word_tables.specs.Spelling.{is_word, is_one_of, is_cycle}
+use Rattle.name_tables.specs.Spelling.{is_word, is_one_of, is_cycle}
 
 unfoldable pub refused_name : List ℕ → Option ℕ
 refused_name text =

@@ -2,10 +2,10 @@
 
 ghost use Rattle.std.specs.Prelude.{◌≡◌};
 ghost use Rattle.std.specs.List.{list_any};
-ghost use Rattle.word_tables.specs.Spelling.{is_word, is_cycle};
+ghost use Rattle.name_tables.specs.Spelling.{is_word, is_cycle};
 
 /// Whether a text is this word, in upper or lower case.
-pub(crate) fn is_word(text: &[u8], word: &[u8]) -> bool
+pub fn is_word(text: &[u8], word: &[u8]) -> bool
     ensures { result ≡ is_word text.now word.now }
 {
     text.eq_ignore_ascii_case(word)
