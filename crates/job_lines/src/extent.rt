@@ -31,7 +31,6 @@ pub struct Extent {
 
 impl Extent {
     /// How much a job of this version may have.
-    #[tactic(auto, unfolding(crate::specs::Extent::extent_of))]
     pub fn of(version: u8) -> Extent
         ensures value { result ≡ extent_of version }
         ensures channels { result.channels ≤ CHANNEL_LIMIT }
