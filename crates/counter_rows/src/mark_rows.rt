@@ -62,7 +62,7 @@ impl MarkRows {
             ≡ (if has marks.now m && (d == channel) then row else row_in self.old m d) }
     {
         let mut rest = *marks;
-        for k in 0..MARK_LIMIT {
+        for _turn in 0..MARK_LIMIT {
             match rest.lowest() {
                 None => return,
                 Some(mark) => {
@@ -81,7 +81,7 @@ impl MarkRows {
             else count_of (row_in self.old m d) c) }
     {
         let mut rest = *marks;
-        for k in 0..MARK_LIMIT {
+        for _turn in 0..MARK_LIMIT {
             match rest.lowest() {
                 None => return,
                 Some(mark) => {
@@ -128,7 +128,7 @@ impl MarkRows {
     {
         let mut row = start;
         let mut rest = *marks;
-        for k in 0..MARK_LIMIT {
+        for _turn in 0..MARK_LIMIT {
             match rest.lowest() {
                 None => return row,
                 Some(mark) => {
