@@ -1,3 +1,4 @@
 pub mod GatherLaws
 pub mod GoingLaws
 pub mod TableLaws
+pub mod WalkLaws

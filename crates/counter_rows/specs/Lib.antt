@@ -1,2 +1,3 @@
+pub mod MarkRows
 pub mod Rows
 pub mod Tables

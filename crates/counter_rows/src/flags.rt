@@ -1,9 +1,9 @@
 //! For each number whether it is a member of a set.
 ghost use Rattle.std.specs.Prelude.{◌≡◌, ℕ, length};
-ghost use Rattle.axis_sets.specs.declared.limits.TheConstants.{AXIS_LIMIT, CHANNEL_PLACES, MARK_LIMIT};
+ghost use Rattle.axis_sets.specs.declared.limits.TheConstants.{AXIS_LIMIT, CHANNEL_PLACES};
 
 use axis_sets::{
-    AXIS_LIMIT, AxisId, AxisSet, CHANNEL_PLACES, ChannelId, ChannelSet, MARK_LIMIT, MarkSet,
+    AXIS_LIMIT, AxisId, AxisSet, CHANNEL_PLACES, ChannelId, ChannelSet,
     sets_are_known_by_their_members,
 };
 
@@ -35,22 +35,6 @@ pub fn channel_flags(set: &ChannelSet) -> [bool; CHANNEL_PLACES]
     }
     for number in 1..CHANNEL_PLACES as u8 {
         flags[usize::from(number)] = set.contains(ChannelId { number });
-    }
-    flags
-}
-
-/// For each mark whether it is a member.
-pub fn mark_flags(set: &MarkSet) -> [bool; MARK_LIMIT]
-    ensures members { result ≡ set.now }
-    ensures size { length result ≡ MARK_LIMIT }
-{
-    sets_are_known_by_their_members();
-    let mut flags = [false; MARK_LIMIT];
-    if set.is_empty() {
-        return flags;
-    }
-    for number in 0..MARK_LIMIT as u8 {
-        flags[usize::from(number)] = set.contains(number);
     }
     flags
 }

@@ -1,20 +1,22 @@
-//! Rows of counters, one number for each channel, and arrays of rows.
+//! Rows of counters, one number for each channel, and lists of rows.
 #![tactic(auto)]
 
 mod columns;
 mod flags;
 mod gather;
 mod going;
+mod mark_rows;
 mod notes;
 mod row;
 mod sets;
 mod table;
 
-pub use columns::{at_channel, at_column, most_column, most_down, put_at, put_column};
-pub use flags::{axis_flags, channel_flags, mark_flags};
+pub use columns::{at_channel, put_at};
+pub use flags::{axis_flags, channel_flags};
 pub use gather::{most_chosen, put_chosen};
 pub use going::{joint_rows, put_rows};
-pub use notes::{note_chosen, note_column, note_one, note_row};
+pub use mark_rows::MarkRows;
+pub use notes::note_chosen;
 pub use row::Row;
-pub use sets::{put_axes, put_channels, put_marks};
+pub use sets::{put_axes, put_channels};
 pub use table::{RowTable, StepRows};

@@ -28,16 +28,10 @@ zero_row n c x row none = elim (cases_lt c n) [
   | inr past ↦ ap (λ (r : List ℕ). count_of r x) (get_or_past (replicate n row) c [] (let e = length-replicate n row in omega arith))
 ]
 
-pub zero_rows : (n k m c x : ℕ) (row : List ℕ) → ((y : ℕ) → count_of row y ≡ 0) → count_of (slice_index_or (slice_index_or (replicate n (replicate k row)) m []) c []) x ≡ 0
-zero_rows n k m c x row none = elim (cases_lt m n) [
-  | inl below ↦ ap (λ (r : List (List ℕ)). count_of (slice_index_or r c []) x) (get_or-replicate n m (replicate k row) [] below) ∙ zero_row k c x row none
-  | inr past ↦ ap (λ (r : List (List ℕ)). count_of (slice_index_or r c []) x) (get_or_past (replicate n (replicate k row)) m [] (let e = length-replicate n (replicate k row) in omega arith))
-]
-
 pub zero_at : (t : Times) (row : List ℕ) → ((y : ℕ) → count_of row y ≡ 0)
-    → t.raised ≡ replicate MARK_LIMIT (replicate CHANNEL_PLACES row) → t.freed ≡ replicate AXIS_LIMIT row → t.started ≡ replicate CHANNEL_PLACES row → t.ended ≡ replicate CHANNEL_PLACES row
+    → ((m c x : ℕ) → count_of (slice_index_or (slice_index_or t.raised m []) c []) x ≡ 0) → t.freed ≡ replicate AXIS_LIMIT row → t.started ≡ replicate CHANNEL_PLACES row → t.ended ≡ replicate CHANNEL_PLACES row
     → (k : Key) (x : ℕ) → count_of (row_at t k) x ≡ 0
-zero_at t row none raised freed started ended (Raised c m) x = ap (λ (r : List (List (List ℕ))). count_of (slice_index_or (slice_index_or r m []) c []) x) raised ∙ zero_rows MARK_LIMIT CHANNEL_PLACES m c x row none
+zero_at t row none raised freed started ended (Raised c m) x = raised m c x
 zero_at t row none raised freed started ended (Freed a) x = ap (λ (r : List (List ℕ)). count_of (slice_index_or r a []) x) freed ∙ zero_row AXIS_LIMIT a x row none
 zero_at t row none raised freed started ended (Started c) x = ap (λ (r : List (List ℕ)). count_of (slice_index_or r c []) x) started ∙ zero_row CHANNEL_PLACES c x row none
 zero_at t row none raised freed started ended (Ended c) x = ap (λ (r : List (List ℕ)). count_of (slice_index_or r c []) x) ended ∙ zero_row CHANNEL_PLACES c x row none

@@ -20,7 +20,7 @@ use Rattle.step_deeds.specs.declared.deed.Hold.TheVariants.{Marks, Axes}
 use Rattle.order_clocks.specs.declared.places.Places.{Places}
 use Rattle.order_clocks.proofs.CountLaws.{IsUncounted, racy_steps}
 use Rattle.order_clocks.proofs.CounterLaws.{top_above, top_attained}
-use Rattle.order_clocks.proofs.CountingLaws.{zero_row, zero_rows}
+use Rattle.order_clocks.proofs.CountingLaws.{zero_row}
 use Rattle.sync_types.specs.Boards.{among}
 use Rattle.sync_types.specs.declared.runs.EventId.{EventId}
 use Rattle.step_deeds.specs.Holds.{departure_of, goes_in, is_given}
@@ -202,9 +202,9 @@ racy_back run tracks i deed rows p limit is tracked are last limits racy =
 
 -- before all events
 pub zero_spots : (p : Places) (row : List ℕ) → ((y : ℕ) → count_of row y ≡ 0)
-    → p.lowered ≡ replicate MARK_LIMIT (replicate CHANNEL_PLACES row) → p.needed ≡ replicate MARK_LIMIT (replicate CHANNEL_PLACES row) → p.took ≡ replicate AXIS_LIMIT row → p.touched ≡ replicate CHANNEL_PLACES row
+    → ((m c x : ℕ) → count_of (slice_index_or (slice_index_or p.lowered m []) c []) x ≡ 0) → ((m c x : ℕ) → count_of (slice_index_or (slice_index_or p.needed m []) c []) x ≡ 0) → p.took ≡ replicate AXIS_LIMIT row → p.touched ≡ replicate CHANNEL_PLACES row
     → (t : Trace) (x : ℕ) → count_of (spot_at p t) x ≡ 0
-zero_spots p row none lowered needed took touched (Lowered c m) x = ap (λ (r : List (List (List ℕ))). count_of (slice_index_or (slice_index_or r m []) c []) x) lowered ∙ zero_rows MARK_LIMIT CHANNEL_PLACES m c x row none
-zero_spots p row none lowered needed took touched (Needed c m) x = ap (λ (r : List (List (List ℕ))). count_of (slice_index_or (slice_index_or r m []) c []) x) needed ∙ zero_rows MARK_LIMIT CHANNEL_PLACES m c x row none
+zero_spots p row none lowered needed took touched (Lowered c m) x = lowered m c x
+zero_spots p row none lowered needed took touched (Needed c m) x = needed m c x
 zero_spots p row none lowered needed took touched (Took a) x = ap (λ (r : List (List ℕ)). count_of (slice_index_or r a []) x) took ∙ zero_row AXIS_LIMIT a x row none
 zero_spots p row none lowered needed took touched (Touched c) x = ap (λ (r : List (List ℕ)). count_of (slice_index_or r c []) x) touched ∙ zero_row CHANNEL_PLACES c x row none

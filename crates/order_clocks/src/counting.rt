@@ -29,15 +29,15 @@ pub(crate) fn read_run(
         → IfOk result (λ clocks. IsFirst b (moves_in entries.now) (length entries.now) clocks.race) }
 {
     let _zero = Row::zero();
-    let first = Reader::new(entries, ends);
-    let mut reader = first;
-    let mut search = Search::new();
+    let first = Reader::new(alloc, entries, ends)?;
+    let mut reader = first.copied()?;
+    let mut search = Search::new(alloc)?;
     let mut read = StepRead::none();
     // Room for the acts. It grows for those that go on.
     let mut table = RowTable::new(alloc, entries.len(), entries.len())?;
     for place in 0..entries.len() {
         reader.next(entries, place, &mut read);
-        search.look(&first, entries, place, &read, &reader.watch);
+        search.look(&first, entries, place, &read, &reader.watch)?;
         table.push(&read.rows, &goers(&read.deed.goes))?;
     }
     Ok(Clocks::of(table, search.race))

@@ -7,23 +7,24 @@ ghost use Rattle.order_clocks.specs.TracedRaces.{Trace};
 ghost use Rattle.order_clocks.specs.LastPlaces.{AreLast, IsTracked, deed_leaves, deed_minds, departure_leaves, departure_minds, hold_minds, leaves_of, spot_at};
 ghost use Rattle.order_clocks.specs.Steps.{AreRows, IsStep};
 ghost use Rattle.order_clocks.specs.Tracks.{IsRacyAt, Tracks};
-ghost use Rattle.std.specs.Prelude.{◌≡◌, ℕ, suc, true, false, ◌<◌, ◌==◌, ◌&&◌, ◌↔◌, IsTrue, length, [], None, Some, slice_index_or, if◌then◌else◌};
+ghost use Rattle.std.specs.Prelude.{◌≡◌, ℕ, suc, true, false, ◌<◌, ◌==◌, ◌&&◌, ◌↔◌, IsTrue, length, [], None, Some, slice_index_or, IfOk, if◌then◌else◌};
 ghost use Rattle.step_deeds.specs.Holds.{BeginsAtMark, DepartsFromMark, departure_of};
 
-use axis_sets::{AXIS_LIMIT, CHANNEL_PLACES, MARK_LIMIT};
+use axis_sets::{AXIS_LIMIT, CHANNEL_PLACES};
 use counter_rows::{
-    Row, StepRows, at_column, axis_flags, channel_flags, mark_flags, most_chosen, most_column,
-    most_down, note_chosen, note_column, note_one, note_row,
+    MarkRows, Row, StepRows, at_channel, axis_flags, channel_flags, most_chosen, note_chosen,
 };
+use out_of_memory::NoMemory;
+use std::alloc::Global;
 use step_deeds::{Deed, Departure, Hold};
 
 /// For each trace and each channel the counter of its last event that left the trace; 0 for none.
-#[derive(Clone, Copy)]
+#[derive(Drop)]
 pub struct Places {
-    /// By number and channel: its mark was lowered.
-    pub lowered: [[Row; CHANNEL_PLACES]; MARK_LIMIT],
-    /// By number and channel: its mark was needed.
-    pub needed: [[Row; CHANNEL_PLACES]; MARK_LIMIT],
+    /// By mark and channel: the mark was lowered.
+    pub lowered: MarkRows,
+    /// By mark and channel: the mark was needed.
+    pub needed: MarkRows,
     /// By axis: it was taken.
     pub took: [Row; AXIS_LIMIT],
     /// By channel: INIT or START named it.
@@ -31,17 +32,19 @@ pub struct Places {
 }
 
 impl Places {
-    /// Before all events.
-    pub(crate) fn new() -> Places
-        ensures { (t : Trace) (c : ℕ) → count_of (spot_at result t) c ≡ 0 }
+    /// Before all events. `NoMemory` where there is too little.
+    pub(crate) fn new(alloc: Global) -> Result<Places, NoMemory>
+        ensures { IfOk result (λ places. (t : Trace) (c : ℕ) → count_of (spot_at places t) c ≡ 0) }
     {
+        let lowered = MarkRows::new(alloc)?;
+        let needed = MarkRows::new(alloc)?;
         let zero = Row::zero();
-        Places {
-            lowered: [[zero; CHANNEL_PLACES]; MARK_LIMIT],
-            needed: [[zero; CHANNEL_PLACES]; MARK_LIMIT],
+        Ok(Places {
+            lowered,
+            needed,
             took: [zero; AXIS_LIMIT],
             touched: [zero; CHANNEL_PLACES],
-        }
+        })
     }
 
     /// Notes the act.
@@ -50,8 +53,10 @@ impl Places {
             ≡ (if deed_leaves deed.now t && (c == deed.now.channel) then place else count_of (spot_at self.old t) c) }
     {
         let c = usize::from(deed.channel.number);
-        note_column(&mut self.lowered, &mark_flags(&deed.lowers), c, place);
-        note_chosen(&mut self.touched, &channel_flags(&deed.touches), c, place);
+        self.lowered.note_marks(&deed.lowers, c, place);
+        if !deed.touches.is_empty() {
+            note_chosen(&mut self.touched, &channel_flags(&deed.touches), c, place);
+        }
     }
 
     /// Notes that a channel goes on.
@@ -64,14 +69,9 @@ impl Places {
         note_chosen(&mut self.took, &axis_flags(&gone.took), c, place);
         if let Some(held) = &gone.held {
             if let Hold::Marks(m, named) = &held.hold {
-                note_one(&mut self.lowered, usize::from(*m), c, place);
-                note_row(
-                    &mut self.needed,
-                    usize::from(*m),
-                    &channel_flags(named),
-                    c,
-                    place,
-                );
+                let m = usize::from(*m);
+                self.lowered.note_one(m, c, place);
+                self.needed.note_row(m, &channel_flags(named), c, place);
             }
         }
     }
@@ -113,9 +113,8 @@ impl Places {
         match begins {
             None => Row::zero(),
             Some(hold) => match hold {
-                Hold::Marks(m, named) => most_column(
-                    &self.lowered,
-                    usize::from(*m),
+                Hold::Marks(m, named) => most_chosen(
+                    self.lowered.row(usize::from(*m)),
                     &channel_flags(named),
                     Row::zero(),
                 ),
@@ -133,7 +132,7 @@ impl Places {
         let c = deed.actor();
         let hold = self.hold_limit(&deed.begins);
         let touched = most_chosen(&self.touched, &channel_flags(&deed.touches), hold);
-        most_down(&self.needed, &mark_flags(&deed.lowers), c, touched)
+        self.needed.most_of_marks(&deed.lowers, c, touched)
     }
 
     /// The greatest places of what one that goes on minds.
@@ -148,7 +147,7 @@ impl Places {
             Some(gone) => match &gone.held {
                 None => Row::zero(),
                 Some(held) => match &held.hold {
-                    Hold::Marks(m, _) => at_column(&self.needed, usize::from(*m), c),
+                    Hold::Marks(m, _) => at_channel(self.needed.row(usize::from(*m)), c),
                     Hold::Ends(_) => Row::zero(),
                     Hold::Axes(_) => Row::zero(),
                 },

@@ -5,7 +5,7 @@ ghost use Rattle.order_clocks.specs.Happenings.{board_at, happening_of};
 ghost use Rattle.order_clocks.specs.Reading.{IsReadAt, IsReaderAt};
 ghost use Rattle.order_clocks.specs.Stops.{IsWhole};
 ghost use Rattle.order_clocks.specs.Watching.{BeginIsSound, IsLawful, IsRead, Keeps, WatchIsSound};
-ghost use Rattle.std.specs.Prelude.{◌≡◌, ℕ, suc, ◌<◌, ◌≤◌, ◌^◌, false, length};
+ghost use Rattle.std.specs.Prelude.{◌≡◌, ℕ, suc, ◌<◌, ◌≤◌, ◌^◌, false, length, IfOk};
 ghost use Rattle.sync_types.specs.Boards.{Board};
 ghost use Rattle.sync_types.specs.Turns.{after_step};
 ghost use Rattle.step_deeds.specs.Holds.{BeginsAtMark, DepartsFromMark, departure_of, goes_in};
@@ -15,6 +15,8 @@ use crate::stops::{Stops, stops_of};
 use crate::watch::Watch;
 use axis_sets::ChannelId;
 use counter_rows::{Row, StepRows};
+use out_of_memory::NoMemory;
+use std::alloc::Global;
 use step_deeds::Deed;
 use sync_types::{ChannelEnd, Entry, Go, Step};
 
@@ -40,7 +42,7 @@ impl StepRead {
 }
 
 /// What is known of a run up to some step.
-#[derive(Clone, Copy)]
+#[derive(Drop)]
 pub(crate) struct Reader {
     pub(crate) stops: Stops,
     pub(crate) watch: Watch,
@@ -92,15 +94,32 @@ pub(crate) fn tell_entry(watch: &mut Watch, entry: &Entry, alarms: bool, deed: &
 }
 
 impl Reader {
-    /// Before the first step of a run.
-    pub(crate) fn new(entries: &[Entry], ends: &[ChannelEnd]) -> Reader
-        ensures { (b : Board) → IsWhole b entries.now ends.now → IsReaderAt b entries.now 0 result }
+    /// Before the first step of a run. `NoMemory` where there is too little.
+    pub(crate) fn new(
+        alloc: Global,
+        entries: &[Entry],
+        ends: &[ChannelEnd],
+    ) -> Result<Reader, NoMemory>
+        ensures { (b : Board) → IsWhole b entries.now ends.now → IfOk result (IsReaderAt b entries.now 0) }
     {
-        Reader {
+        let times = Times::new(alloc)?;
+        Ok(Reader {
             stops: stops_of(entries, ends),
             watch: Watch::new(),
-            times: Times::new(),
-        }
+            times,
+        })
+    }
+
+    /// The same, to go on apart. `NoMemory` where there is too little.
+    pub(crate) fn copied(&self) -> Result<Reader, NoMemory>
+        ensures { IfOk result (λ reader. reader ≡ self.now) }
+    {
+        let times = self.times.copied()?;
+        Ok(Reader {
+            stops: self.stops,
+            watch: self.watch,
+            times,
+        })
     }
 
     /// Reads the next step, and puts it in the place of an earlier one.

@@ -9,7 +9,7 @@ ghost use Rattle.order_clocks.specs.Tracks.{IsEarlierRace, tracks_of};
 ghost use Rattle.step_deeds.specs.declared.deed.Deed.{Deed};
 ghost use Rattle.counter_rows.specs.declared.table.StepRows.{StepRows};
 ghost use Rattle.order_clocks.specs.declared.pairs.Meeting.TheVariants.{Together, Waiting};
-ghost use Rattle.std.specs.Prelude.{◌≡◌, ℕ, suc, ◌<◌, ◌≤◌, ◌^◌, ◌⊎◌, List, None, length};
+ghost use Rattle.std.specs.Prelude.{◌≡◌, ℕ, suc, ◌<◌, ◌≤◌, ◌^◌, ◌⊎◌, List, None, length, IfOk, IsOk};
 ghost use Rattle.sync_types.specs.Boards.{Board};
 ghost use Rattle.sync_types.specs.Turns.{Move};
 ghost use Rattle.step_deeds.specs.Holds.{BeginsAtMark, DepartsFromMark, departure_of};
@@ -19,10 +19,12 @@ use crate::pairs::{Meeting, least_between};
 use crate::places::Places;
 use crate::reader::{Reader, StepRead};
 use crate::watch::Watch;
+use out_of_memory::NoMemory;
+use std::alloc::Global;
 use sync_types::{Entry, Race};
 
 /// The first race so far; and the last events that left a trace, as long as there is none.
-#[derive(Clone, Copy)]
+#[derive(Drop)]
 pub(crate) struct Search {
     pub(crate) places: Places,
     pub(crate) race: Option<Race>,
@@ -43,24 +45,25 @@ pub(crate) fn least_within(
     least_between(&Meeting::Together, events, events, waiting)
 }
 
-/// The least of the races so far and those of a step with the steps before it.
+/// The least of the races so far and those of a step with the steps before it. `NoMemory` where there is too
+/// little to read these once more.
 pub(crate) fn least_before(
     first: &Reader,
     entries: &[Entry],
     place: usize,
     lates: &[Option<Event>; EVENT_PLACES],
     start: Option<Race>,
-) -> Option<Race>
+) -> Result<Option<Race>, NoMemory>
     requires place { place ≤ length entries.now }
     requires few { length entries.now < 2 ^ 32 }
     requires reader { (b : Board) × IsReaderAt b entries.now 0 first.now }
     ensures { (b : Board) (late : Deed) (rows : StepRows) → IsReaderAt b entries.now 0 first.now
         → IsKnownStep (course_of b (moves_in entries.now)) (tracks_of b (moves_in entries.now)) place late rows
         → AreEvents late rows lates.now
-        → IsLeastWith (IsEarlierRace (course_of b (moves_in entries.now))
-        (tracks_of b (moves_in entries.now)) place place) start result }
+        → IfOk result (IsLeastWith (IsEarlierRace (course_of b (moves_in entries.now))
+        (tracks_of b (moves_in entries.now)) place place) start) }
 {
-    let mut reader = *first;
+    let mut reader = first.copied()?;
     let mut least = start;
     let mut earlies = [None; EVENT_PLACES];
     let mut read = StepRead::none();
@@ -69,11 +72,12 @@ pub(crate) fn least_before(
         put_events(&read.deed, &read.rows, &mut earlies);
         least = least_between(&Meeting::Later, &earlies, lates, least);
     }
-    least
+    Ok(least)
 }
 
 /// The least race of a step, where there was none before it. The steps before it are read once more only
-/// where there is one with them. The events and the waits are put in the room that is given for them.
+/// where there is one with them: `NoMemory` where there is too little for that. The events and the waits are put
+/// in the room that is given for them.
 pub(crate) fn least_at(
     places: &Places,
     first: &Reader,
@@ -83,7 +87,7 @@ pub(crate) fn least_at(
     watch: &Watch,
     events: &mut [Option<Event>; EVENT_PLACES],
     waits: &mut [Option<Event>; EVENT_PLACES],
-) -> Option<Race>
+) -> Result<Option<Race>, NoMemory>
     requires place { place ≤ length entries.now }
     requires few { length entries.now < 2 ^ 32 }
     requires reader { (b : Board) × IsReaderAt b entries.now 0 first.now }
@@ -92,7 +96,7 @@ pub(crate) fn least_at(
     ensures { (b : Board) → IsReaderAt b entries.now 0 first.now
         → IsReadAt b (moves_in entries.now) place read.now watch.now
         → AreLast (course_of b (moves_in entries.now)) (tracks_of b (moves_in entries.now)) place places.now
-        → place < length entries.now → IsLeastWith (IsRace b (moves_in entries.now) place) None result }
+        → place < length entries.now → IfOk result (IsLeastWith (IsRace b (moves_in entries.now) place) None) }
 {
     put_events(&read.deed, &read.rows, events);
     put_waits(&watch.holds, waits);
@@ -100,24 +104,25 @@ pub(crate) fn least_at(
     if places.is_racy(&read.deed, &read.rows) {
         least_before(first, entries, place, events, within)
     } else {
-        within
+        Ok(within)
     }
 }
 
 impl Search {
-    /// Before the first step.
-    pub(crate) fn new() -> Search
-        ensures { (b : Board) (moves : List Move) → IsSearched b moves 0 result }
+    /// Before the first step. `NoMemory` where there is too little.
+    pub(crate) fn new(alloc: Global) -> Result<Search, NoMemory>
+        ensures { (b : Board) (moves : List Move) → IfOk result (IsSearched b moves 0) }
     {
-        Search {
-            places: Places::new(),
+        let places = Places::new(alloc)?;
+        Ok(Search {
+            places,
             race: None,
             events: [None; EVENT_PLACES],
             waits: [None; EVENT_PLACES],
-        }
+        })
     }
 
-    /// Searches the next step.
+    /// Searches the next step. `NoMemory` where there is too little to read the steps before it once more.
     pub(crate) fn look(
         &mut self,
         first: &Reader,
@@ -125,7 +130,7 @@ impl Search {
         place: usize,
         read: &StepRead,
         watch: &Watch,
-    )
+    ) -> Result<(), NoMemory>
         requires place { place < length entries.now }
         requires few { length entries.now < 2 ^ 32 }
         requires reader { (b : Board) × IsReaderAt b entries.now 0 first.now }
@@ -134,14 +139,14 @@ impl Search {
         ensures { (b : Board) → IsReaderAt b entries.now 0 first.now
             → IsReadAt b (moves_in entries.now) place read.now watch.now
             → IsSearched b (moves_in entries.now) place self.old
-            → IsSearched b (moves_in entries.now) (suc place) self.new }
+            → IsOk result → IsSearched b (moves_in entries.now) (suc place) self.new }
     {
         match self.race {
-            Some(_) => {}
+            Some(_) => Ok(()),
             None => {
                 // A step that leaves no trace and minds none is in no race.
                 if read.deed.is_traceless() {
-                    return;
+                    return Ok(());
                 }
                 self.race = least_at(
                     &self.places,
@@ -152,8 +157,9 @@ impl Search {
                     watch,
                     &mut self.events,
                     &mut self.waits,
-                );
+                )?;
                 self.places.note(&read.deed, &read.rows);
+                Ok(())
             }
         }
     }

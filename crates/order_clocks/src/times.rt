@@ -1,7 +1,7 @@
 //! The counters of the last events.
 ghost use Rattle.axis_sets.specs.Sets.{has};
 ghost use Rattle.axis_sets.specs.declared.limits.TheConstants.{CHANNEL_PLACES};
-ghost use Rattle.std.specs.Prelude.{◌≡◌, ℕ, suc, ◌+◌, ◌<◌, ◌^◌, ◌==◌, max, length, [], None, true, slice_index_or, if◌then◌else◌};
+ghost use Rattle.std.specs.Prelude.{◌≡◌, ℕ, suc, ◌+◌, ◌<◌, ◌^◌, ◌==◌, max, length, [], None, true, slice_index_or, IfOk, if◌then◌else◌};
 ghost use Rattle.order_clocks.specs.Happenings.{Key};
 ghost use Rattle.order_clocks.specs.Courses.{Course};
 ghost use Rattle.order_clocks.specs.Counters.{LastRows, rows_after_goings, go_row, last_rows};
@@ -9,20 +9,22 @@ ghost use Rattle.counter_rows.specs.Rows.{top, count_of};
 ghost use Rattle.order_clocks.specs.Steps.{IsStep, Shows, HasRoom, AreRows, keys_of, gives_of, row_at};
 ghost use Rattle.step_deeds.specs.Holds.{DepartsFromMark, departure_of, goes_in};
 
-use axis_sets::{AXIS_LIMIT, CHANNEL_PLACES, MARK_LIMIT};
+use axis_sets::{AXIS_LIMIT, CHANNEL_PLACES};
 use counter_rows::{
-    Row, StepRows, at_channel, axis_flags, channel_flags, joint_rows, most_chosen, most_column,
-    put_at, put_axes, put_channels, put_marks, put_rows,
+    MarkRows, Row, StepRows, at_channel, axis_flags, channel_flags, joint_rows, most_chosen,
+    put_at, put_axes, put_channels, put_rows,
 };
+use out_of_memory::NoMemory;
+use std::alloc::Global;
 use step_deeds::{Deed, Departure, Hold, goers, is_nobody};
 
 /// The counters of the last event of each channel, and of the last Act that gave each key.
-#[derive(Clone, Copy)]
+#[derive(Drop)]
 pub struct Times {
     /// By channel.
     pub past: [Row; CHANNEL_PLACES],
-    /// By number and channel: of the raising of a mark.
-    pub raised: [[Row; CHANNEL_PLACES]; MARK_LIMIT],
+    /// By mark and channel: of the raising of the mark.
+    pub raised: MarkRows,
     /// By axis: of the giving away.
     pub freed: [Row; AXIS_LIMIT],
     /// By channel: of the START.
@@ -32,19 +34,34 @@ pub struct Times {
 }
 
 impl Times {
-    /// Before all events.
-    pub fn new() -> Times
-        ensures past { (c x : ℕ) → count_of (slice_index_or result.past c []) x ≡ 0 }
-        ensures last { (k : Key) (x : ℕ) → count_of (row_at result k) x ≡ 0 }
+    /// Before all events. `NoMemory` where there is too little.
+    pub fn new(alloc: Global) -> Result<Times, NoMemory>
+        ensures past { IfOk result (λ times. (c x : ℕ) → count_of (slice_index_or times.past c []) x ≡ 0) }
+        ensures last { IfOk result (λ times. (k : Key) (x : ℕ) → count_of (row_at times k) x ≡ 0) }
     {
+        let raised = MarkRows::new(alloc)?;
         let zero = Row::zero();
-        Times {
+        Ok(Times {
             past: [zero; CHANNEL_PLACES],
-            raised: [[zero; CHANNEL_PLACES]; MARK_LIMIT],
+            raised,
             freed: [zero; AXIS_LIMIT],
             started: [zero; CHANNEL_PLACES],
             ended: [zero; CHANNEL_PLACES],
-        }
+        })
+    }
+
+    /// The same counters, to be changed apart. `NoMemory` where there is too little.
+    pub fn copied(&self) -> Result<Times, NoMemory>
+        ensures { IfOk result (λ times. times ≡ self.now) }
+    {
+        let raised = self.raised.copied()?;
+        Ok(Times {
+            past: self.past,
+            raised,
+            freed: self.freed,
+            started: self.started,
+            ended: self.ended,
+        })
     }
 
     /// Counts the Act.
@@ -60,7 +77,7 @@ impl Times {
         let c = usize::from(deed.channel.number);
         let row = self.past[c].counted(c);
         put_at(&mut self.past, c, row);
-        put_marks(&mut self.raised, &deed.raises, c, row);
+        self.raised.put_marks(&deed.raises, c, row);
         put_axes(&mut self.freed, &deed.frees, row);
         put_channels(&mut self.started, &deed.starts, row);
         if deed.ends {
@@ -82,9 +99,8 @@ impl Times {
             Some(gone) => match &gone.held {
                 None => past.most(at_channel(&self.started, c)),
                 Some(held) => match &held.hold {
-                    Hold::Marks(m, named) => most_column(
-                        &self.raised,
-                        usize::from(*m),
+                    Hold::Marks(m, named) => most_chosen(
+                        self.raised.row(usize::from(*m)),
                         &channel_flags(named),
                         past,
                     ),

@@ -11,9 +11,9 @@ loop-place-init c =
     let none : length c.in_ok-table.table.steps ≡ 0 = c.in_ok-table.ensures in
     record {
       size = none;
-      first = λ b whole. c.new-first.ensures b whole;
-      reader = λ b whole. c.new-first.ensures b whole;
-      searched = λ b whole. c.new-search.ensures b (moves_in c.args.entries.now);
+      first = λ b whole. c.in_ok-first.ensures b whole;
+      reader = λ b whole. rw c.in_ok-reader.ensures (c.in_ok-first.ensures b whole);
+      searched = λ b whole. c.in_ok-search.ensures b (moves_in c.args.entries.now);
       tells = λ b whole. record { rows = λ e event within x. absurd (omega arith) };
     }
 
@@ -26,7 +26,7 @@ loop-place-preserved c =
       size = omega arith;
       first = i.first;
       reader = λ b whole. rw add-one (c.next.ensures.next b (i.reader b whole));
-      searched = λ b whole. rw add-one (c.look.ensures b (i.first b whole) (c.next.ensures.read b (i.reader b whole)) (i.searched b whole));
+      searched = λ b whole. rw add-one (c.in_ok-look.ensures b (i.first b whole) (c.next.ensures.read b (i.reader b whole)) (i.searched b whole) refl);
       tells = λ b whole.
           let read = c.next.ensures.read b (i.reader b whole) in
           tells_more (course_of b (moves_in c.args.entries.now)) c.loop-place.table c.push.new.self c.next.new.read.rows c.goers.result (i.tells b whole)

@@ -1,5 +1,6 @@
 use Rattle.std.proofs.Common.{sym, ◌∙◌}
 use Rattle.std.proofs.lemmas.Bool.{true≢false}
+use Rattle.std.proofs.lemmas.Result.{IfOk-weaker}
 use Rattle.order_clocks.specs.Clocked.{moves_in}
 use Rattle.order_clocks.specs.CourseOf.{course_of}
 use Rattle.order_clocks.specs.Tracks.{tracks_of}
@@ -20,7 +21,8 @@ returns-then-is_racy c = λ b reader read last inside.
       size = c.put_waits.ensures.size;
       waited = c.put_waits.ensures.waits;
     } in
-    step_least b (moves_in c.args.entries.now) c.args.place c.args.read.now.deed c.args.read.now.rows c.put_events.new.events c.put_waits.new.waits c.args.watch.now.holds c.least_within-within.result c.least_before.result told c.least_within-within.ensures
+    IfOk-weaker c.least_before.result _ _
+    (λ least. step_least b (moves_in c.args.entries.now) c.args.place c.args.read.now.deed c.args.read.now.rows c.put_events.new.events c.put_waits.new.waits c.args.watch.now.holds c.least_within-within.result least told c.least_within-within.ensures)
     (c.least_before.ensures b c.args.read.now.deed c.args.read.now.rows reader read.known c.put_events.ensures)
 
 pub returns-else-is_racy : goal.returns-else-is_racy

@@ -8,7 +8,7 @@ use Rattle.order_clocks.proofs.search.least_before.Goals as goal
 
 pub loop-j-init : goal.loop-j-init
 loop-j-init c = record {
-  reader = λ b reader. reader;
+  reader = λ b reader. rw c.in_ok-reader.ensures reader;
   least = λ b late rows reader known are. earlier_start (course_of b (moves_in c.args.entries.now)) (tracks_of b (moves_in c.args.entries.now)) c.args.place c.args.start;
 }
 

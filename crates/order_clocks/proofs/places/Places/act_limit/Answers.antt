@@ -11,6 +11,6 @@ pub returns : goal.returns
 returns c = λ x.
     let deed = c.args.deed.now in
     let touched = c.most_chosen-touched.ensures.counts x ∙ most_is (λ t. count_of (spot_at c.args.self.now t) x) Touched c.channel_flags.result deed.touches _ _ _ c.channel_flags.ensures.members refl refl in
-    c.most_down.ensures.counts x
-    ∙ (most_is (λ t. count_of (spot_at c.args.self.now t) x) (λ m. Needed c.actor-c.result m) c.mark_flags.result deed.lowers _ _ (map (λ m. Needed deed.channel m) (members_of deed.lowers)) c.mark_flags.ensures.members refl (ap (λ (d : ℕ). map (λ m. Needed d m) (members_of deed.lowers)) (sym c.actor-c.ensures.channel))
+    c.most_of_marks.ensures.counts x
+    ∙ (most_is (λ t. count_of (spot_at c.args.self.now t) x) (λ m. Needed c.actor-c.result m) deed.lowers deed.lowers _ _ (map (λ m. Needed deed.channel m) (members_of deed.lowers)) refl refl (ap (λ (d : ℕ). map (λ m. Needed d m) (members_of deed.lowers)) (sym c.actor-c.ensures.channel))
     ∙ three_tops (λ t. count_of (spot_at c.args.self.now t) x) (hold_minds deed.begins) (map Touched (members_of deed.touches)) (map (λ m. Needed deed.channel m) (members_of deed.lowers)) _ _ (c.hold_limit-hold.ensures x) touched)

@@ -13,5 +13,5 @@ returns c = λ b whole. record {
     marks = λ d m. c.new.ensures.marks d m ∙ sym (whole.marks d m);
     holds = λ d. ap wait_shown (c.new.ensures.holds d) ∙ sym (fresh_waits (b.state d) (whole.fresh d));
   });
-  shows = record { past = c.new-2.ensures.past; last = c.new-2.ensures.last };
+  shows = record { past = c.in_ok-times.ensures.past; last = c.in_ok-times.ensures.last };
 }

@@ -8,21 +8,21 @@ use Rattle.order_clocks.proofs.TracelessLaws.{traceless_least, traceless_places}
 use Rattle.order_clocks.proofs.search.Search.look.Goals as goal
 
 pub returns-else-is_traceless : goal.returns-else-is_traceless
-returns-else-is_traceless c = λ b reader read searched.
+returns-else-is_traceless c = λ b reader read searched ok.
     let last = searched.last c.in-None.is in
     record {
-      first = first_more b (moves_in c.args.entries.now) c.args.place c.least_at-self.result (rw c.in-None.is at searched.first) (c.least_at-self.ensures b reader read last c.requires.place);
+      first = first_more b (moves_in c.args.entries.now) c.args.place c.in_ok-self.race (rw c.in-None.is at searched.first) (c.in_ok-self.ensures b reader read last c.requires.place);
       last = λ none. c.note.ensures (course_of b (moves_in c.args.entries.now)) (tracks_of b (moves_in c.args.entries.now)) c.args.place read.known.is read.known.tracked read.known.are last;
     }
 
 pub returns-in-Some : goal.returns-in-Some
-returns-in-Some c = λ b reader read searched. record {
+returns-in-Some c = λ b reader read searched ok. record {
   first = rw c.in-Some.is (first_still b (moves_in c.args.entries.now) c.args.place c.in-Some.field-0 (rw c.in-Some.is at searched.first));
   last = λ none. absurd (none-some c.in-Some.field-0 (sym none ∙ c.in-Some.is));
 }
 
 pub returns-then-is_traceless : goal.returns-then-is_traceless
-returns-then-is_traceless c = λ b reader read searched.
+returns-then-is_traceless c = λ b reader read searched ok.
     let quiet = c.is_traceless.ensures.0 c.if-is_traceless.true in
     record {
       first = rw c.in-None.is (first_more b (moves_in c.args.entries.now) c.args.place None (rw c.in-None.is at searched.first) (traceless_least b (moves_in c.args.entries.now) c.args.place c.args.read.now.deed read.deed read.alone quiet));

@@ -8,13 +8,13 @@ use Rattle.order_clocks.proofs.times.Times.own_row.Goals as goal
 
 pub returns-in-Marks : goal.returns-in-Marks
 returns-in-Marks c = λ x.
-    c.most_column.ensures.counts x
+    rw c.row.ensures at (c.most_chosen.ensures.counts x)
     ∙ most_is (λ k. count_of (row_at c.args.self.now k) x) (λ d. Raised d c.from.result) c.channel_flags.result c.in-Marks.named _ _ _ c.channel_flags.ensures.members (ap (λ (r : List ℕ). count_of r x) c.at_channel-past.ensures)
     (asked_marks c.args.c c.args.gone.now c.in-Some.gone c.in-Some-held.held c.from.result c.in-Marks.named c.in-Some.is c.in-Some-held.is (c.in-Marks.is ∙ ap (λ (m : ℕ). Marks m c.in-Marks.named) (sym c.from.ensures)))
 
 pub returns-in-Ends : goal.returns-in-Ends
 returns-in-Ends c = λ x.
-    c.most_chosen.ensures.counts x
+    c.most_chosen-in-Ends.ensures.counts x
     ∙ most_is (λ k. count_of (row_at c.args.self.now k) x) Ended c.channel_flags-in-Ends.result c.in-Ends.named _ _ _ c.channel_flags-in-Ends.ensures.members (ap (λ (r : List ℕ). count_of r x) c.at_channel-past.ensures)
     (asked_ends c.args.c c.args.gone.now c.in-Some.gone c.in-Some-held.held c.in-Ends.named c.in-Some.is c.in-Some-held.is c.in-Ends.is)
 
