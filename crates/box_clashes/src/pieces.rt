@@ -9,7 +9,7 @@ use job_types::Job;
 use swept_boxes::{Box3, PIECE_LIMIT};
 use sync_types::Run;
 use told_places::Place;
-use zone_stretches::{boxes_in_pieces, motion_at, one_box, zone_numbered};
+use zone_stretches::{boxes_in_pieces, motion_at, one_box};
 
 /// The boxes by which a box of a zone would be compared at a depth.
 #[tactic(auto, unfolding(crate::specs::Clashes::boxes_at))]
@@ -24,7 +24,7 @@ pub(crate) fn boxes_at(
     ensures { result.items ≡ model.boxes_at job.now run.now place.now depth }
 {
     let name = place.name;
-    match zone_numbered(job, name.zone.number) {
+    match job.zone_line(name.zone) {
         None => one_box(place.cover),
         Some(zone) => {
             let motion = motion_at(run, place.entry, place.motion);

@@ -9,7 +9,6 @@ use box_reach::Way;
 use job_types::{Job, ZoneLine};
 use swept_boxes::Box3;
 use told_places::{Meeting, Place};
-use zone_stretches::zone_numbered;
 
 /// Whether an axis carries a zone in a direction.
 fn is_carried_by(zone: &ZoneLine, direction: usize) -> bool
@@ -26,7 +25,7 @@ fn is_carried_by(zone: &ZoneLine, direction: usize) -> bool
 fn is_carried(job: &Job, place: &Place, direction: usize) -> bool
     ensures { result ≡ model.is_carried job.now place.now direction }
 {
-    match zone_numbered(job, place.name.zone.number) {
+    match job.zone_line(place.name.zone) {
         Some(zone) => is_carried_by(&zone, direction),
         None => false,
     }

@@ -15,14 +15,14 @@ use Rattle.number_laws.proofs.Lists.{All-found, filter_map-one, found_passes, ra
 use Rattle.job_types.specs.Axes as axes
 use Rattle.job_types.specs.Job.{JobView, ProgramView}
 use Rattle.job_types.specs.SoundJob.{IsDeclared, IsSoundJob, IsSoundZone}
-use Rattle.job_types.specs.Zones.{has_axis}
+use Rattle.job_types.specs.Zones.{carriers, has_axis, zone_line}
 use Rattle.job_types.specs.declared.job.AxisLine.{AxisLine}
 use Rattle.job_types.specs.declared.job.ChannelLine.{ChannelLine}
 use Rattle.job_types.specs.declared.job.ZoneLine.{ZoneLine}
 use Rattle.job_types.proofs.Owners.{carrier_there}
 use Rattle.sync_types.specs.Starts as start
 use Rattle.sync_types.specs.Starts.{IsSound, stand_once}
-use Rattle.channel_machine.specs.StartStates.{line_of_channel, line_of_zone, place_of_name, selected_place, first_channel, channel_entry, first_channels, first_axis, axis_entry, first_axes, carriers, first_zone, zone_entry, first_zones, start_of}
+use Rattle.channel_machine.specs.StartStates.{line_of_channel, place_of_name, selected_place, first_channel, channel_entry, first_channels, first_axis, axis_entry, first_axes, first_zone, zone_entry, first_zones, start_of}
 
 -- ---- one entry more at the end of a row
 row_push : {E : Type 0} (give : ℕ → Option E) (a n : ℕ) → filter_map give (range_with_len a (n + 1)) ≡ filter_map give (range_with_len a n) ++ option_to_list (give (n + a))
@@ -250,27 +250,27 @@ owner_declared job sound x c is = by (slice_get job.axes x) refl is
         rw is at owner
 
 -- ---- the zones
-zone_of_line : (job : JobView) (z : ℕ) (zone : ZoneLine) → line_of_zone job z ≡ Some zone → zone.zone ≡ z
+zone_of_line : (job : JobView) (z : ℕ) (zone : ZoneLine) → zone_line job z ≡ Some zone → zone.zone ≡ z
 zone_of_line job z zone is = eqb-true zone.zone z (found_passes (λ (l : ZoneLine). l.zone == z) job.zones zone is)
 
 zone_keyed : (job : JobView) → IsKeyed (λ e. e.0) (zone_entry job)
-zone_keyed job n e is = by (line_of_zone job n) refl is
+zone_keyed job n e is = by (zone_line job n) refl is
   where
-    by : (o : Option ZoneLine) → line_of_zone job n ≡ o → option_map first_zone o ≡ Some e → e.0 ≡ n
+    by : (o : Option ZoneLine) → zone_line job n ≡ o → option_map first_zone o ≡ Some e → e.0 ≡ n
     by None at is = absurd cc
     by (Some zone) at is = let same : first_zone zone ≡ e = cc in ap (λ x. x.0) (sym same) ∙ zone_of_line job n zone at
 
-zone_sound : (job : JobView) → IsSoundJob job → (z : ℕ) (zone : ZoneLine) → line_of_zone job z ≡ Some zone → IsSoundZone job zone
+zone_sound : (job : JobView) → IsSoundJob job → (z : ℕ) (zone : ZoneLine) → zone_line job z ≡ Some zone → IsSoundZone job zone
 zone_sound job sound z zone at = All-found (IsSoundZone job) (λ (l : ZoneLine). l.zone == z) job.zones zone sound.zones at
 
 no_zone : (job : JobView) → IsSoundJob job → (z : ℕ) → (z < 1) ⊎ (ZONE_PLACES ≤ z) → zone_entry job z ≡ None
-no_zone job sound z outside = by (line_of_zone job z) refl
+no_zone job sound z outside = by (zone_line job z) refl
   where
     far : (z < 1) ⊎ (ZONE_PLACES ≤ z) → 1 ≤ z → z ≤ ZONE_LIMIT → ⊥
     far (inl below) low high = omega arith
     far (inr above) low high = omega arith
 
-    by : (o : Option ZoneLine) → line_of_zone job z ≡ o → option_map first_zone o ≡ None
+    by : (o : Option ZoneLine) → zone_line job z ≡ o → option_map first_zone o ≡ None
     by None at = refl
     by (Some zone) at =
         let number : zone.zone ≡ z = zone_of_line job z zone at in
@@ -341,9 +341,9 @@ channel_line_fact job sound c runs =
 
 holder_declared : (job : JobView) → IsSoundJob job → (z c : ℕ) → start.first_holder (start_of job) z ≡ Some c → start.has_channel (start_of job) c ≡ true
 unfolding start_of
-holder_declared job sound z c held = declared_there job sound c (by (line_of_zone job z) refl (rw (zone_found job sound z) at held))
+holder_declared job sound z c held = declared_there job sound c (by (zone_line job z) refl (rw (zone_found job sound z) at held))
   where
-    by : (o : Option ZoneLine) → line_of_zone job z ≡ o → option_map_or (λ (e : ℕ × List Bool × Option ℕ × Bool). e.2) (option_map first_zone o) None ≡ Some c → IsDeclared job c
+    by : (o : Option ZoneLine) → zone_line job z ≡ o → option_map_or (λ (e : ℕ × List Bool × Option ℕ × Bool). e.2) (option_map first_zone o) None ≡ Some c → IsDeclared job c
     by None at held = absurd cc
     by (Some zone) at held =
         let declared : IfSome zone.holder (IsDeclared job) = (zone_sound job sound z zone at).held in
@@ -353,9 +353,9 @@ holder_declared job sound z c held = declared_there job sound c (by (line_of_zon
 zone_axis : (job : JobView) → IsSoundJob job → (z x : ℕ) → has (start.axes_of_zone (start_of job) z) x ≡ true
     → (x < length job.axes) × (axes.first_owner job x ≡ start.first_holder (start_of job) z)
 unfolding start_of
-zone_axis job sound z x carries = rw (zone_found job sound z) (by (line_of_zone job z) refl (rw (zone_found job sound z) at carries))
+zone_axis job sound z x carries = rw (zone_found job sound z) (by (zone_line job z) refl (rw (zone_found job sound z) at carries))
   where
-    by : (o : Option ZoneLine) → line_of_zone job z ≡ o → has (option_map_or (λ (e : ℕ × List Bool × Option ℕ × Bool). e.1) (option_map first_zone o) []) x ≡ true
+    by : (o : Option ZoneLine) → zone_line job z ≡ o → has (option_map_or (λ (e : ℕ × List Bool × Option ℕ × Bool). e.1) (option_map first_zone o) []) x ≡ true
         → (x < length job.axes) × (axes.first_owner job x ≡ option_map_or (λ (e : ℕ × List Bool × Option ℕ × Bool). e.2) (option_map first_zone o) None)
     by None at carries = absurd (true≢false (sym carries))
     by (Some zone) at carries = carrier_there job zone (zone_sound job sound z zone at) x (carrier_has zone x carries)

@@ -1,28 +1,19 @@
 -- Meaning. What a block of coordination finds in the job and in its channel.
 use Rattle.std.specs.Prelude.{ℕ, ◌==◌, ◌&&◌, is_some, true, ℤ, Bool, if◌then◌else◌, List, map, Option, Some, None, Result, Ok}
-use Rattle.std.specs.List.{list_all, list_any, range_with_len}
+use Rattle.std.specs.List.{list_all, list_any}
 use Rattle.axis_sets.specs.Sets.{has}
-use Rattle.axis_sets.specs.declared.limits.TheConstants.{AXIS_LIMIT}
 use Rattle.coordination_words.specs.Requests.{request_of}
 use Rattle.coordination_words.specs.Settings.{SettingView}
 use Rattle.coordination_words.specs.declared.asked.Request.{Request}
 use Rattle.job_lines.specs.Extent.{extent_of}
 use Rattle.job_types.specs.Axes.{axis_named, is_of}
 use Rattle.job_types.specs.Job.{JobView, ProgramView}
-use Rattle.job_types.specs.Zones.{has_axis}
+use Rattle.job_types.specs.Zones.{carriers}
 use Rattle.job_types.specs.declared.job.AxisLine.{AxisLine}
 use Rattle.job_types.specs.declared.job.ChannelLine.{ChannelLine}
 use Rattle.job_types.specs.declared.job.ZoneLine.{ZoneLine}
 use Rattle.nc_blocks.specs.Statement.{Statement, Coord}
 use Rattle.nc_expressions.specs.Value.{◌>>=◌}
-
--- a CHANNEL line declares the channel
-unfoldable pub has_channel : List ChannelLine → ℕ → Bool
-has_channel channels number = list_any (λ line. line.channel == number) channels
-
--- the axes that carry a zone
-unfoldable pub zone_axes : ZoneLine → List Bool
-zone_axes zone = map (has_axis zone) (range_with_len 0 AXIS_LIMIT)
 
 -- an axis carries one of the zone's directions
 unfoldable pub is_carried : ZoneLine → Bool
@@ -50,12 +41,12 @@ abbrev pub setting_with : ℕ → List ChannelLine → List (List ℕ × Program
 setting_with version channels programs axes zones channel slots owned = record {
   marks = (extent_of version).marks;
   channel = channel;
-  has_channel = has_channel channels;
+  has_channel = λ number. list_any (λ line. line.channel == number) channels;
   names = map (λ p. p.0) programs;
   axis_named = axis_named axes;
   slots = slots;
   owned = owned;
-  zones = map zone_axes zones;
+  zones = map carriers zones;
   holds = holds_zone channel zones owned;
 }
 

@@ -1,12 +1,12 @@
 -- Meaning. Where a job starts: its channels, axes and zones, each in the order of their numbers.
-use Rattle.std.specs.Prelude.{ℕ, ℤ, ◌==◌, Bool, List, map, find, position, slice_get, Option}
+use Rattle.std.specs.Prelude.{ℕ, ℤ, ◌==◌, Bool, List, find, position, slice_get, Option}
 use Rattle.std.specs.List.{filter_map, range_with_len}
 use Rattle.std.specs.Map.{keys_of}
 use Rattle.std.specs.Option.{option_and_then, option_map}
 use Rattle.std.specs.Str.{bytes_eq}
 use Rattle.axis_sets.specs.declared.limits.TheConstants.{AXIS_LIMIT, CHANNEL_LIMIT, ZONE_LIMIT}
 use Rattle.job_types.specs.Job.{JobView}
-use Rattle.job_types.specs.Zones.{has_axis}
+use Rattle.job_types.specs.Zones.{carriers, zone_line}
 use Rattle.job_types.specs.declared.job.AxisLine.{AxisLine}
 use Rattle.job_types.specs.declared.job.ChannelLine.{ChannelLine}
 use Rattle.job_types.specs.declared.job.ZoneLine.{ZoneLine}
@@ -44,20 +44,12 @@ axis_entry job axis = option_map (first_axis axis) (slice_get job.axes axis)
 unfoldable pub first_axes : JobView → List (ℕ × Option ℕ × ℤ)
 first_axes job = filter_map (axis_entry job) (range_with_len 0 AXIS_LIMIT)
 
--- the ZONE line of a zone
-abbrev pub line_of_zone : JobView → ℕ → Option ZoneLine
-line_of_zone job zone = find (λ line. line.zone == zone) job.zones
-
--- the axes that carry a zone
-unfoldable pub carriers : ZoneLine → List Bool
-carriers zone = map (has_axis zone) (range_with_len 0 AXIS_LIMIT)
-
 -- a zone, the axes that carry it, its holder, or none where it is held free, and whether it is on
 abbrev pub first_zone : ZoneLine → ℕ × List Bool × Option ℕ × Bool
 first_zone zone = (zone.zone, carriers zone, zone.holder, zone.on)
 
 abbrev pub zone_entry : JobView → ℕ → Option (ℕ × List Bool × Option ℕ × Bool)
-zone_entry job zone = option_map first_zone (line_of_zone job zone)
+zone_entry job zone = option_map first_zone (zone_line job zone)
 
 unfoldable pub first_zones : JobView → List (ℕ × List Bool × Option ℕ × Bool)
 first_zones job = filter_map (zone_entry job) (range_with_len 1 ZONE_LIMIT)

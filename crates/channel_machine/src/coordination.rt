@@ -4,16 +4,15 @@ ghost use Rattle.std.specs.Prelude.{◌≡◌, ◌≤◌, ◌<◌, None, length,
 ghost use Rattle.block_effects.specs.Words.{parameter_in};
 ghost use Rattle.channel_machine.specs.Coordination as model;
 ghost use Rattle.job_types.specs.Axes.{is_of};
-ghost use Rattle.job_types.specs.Zones.{has_axis, is_carrier};
 ghost use Rattle.nc_blocks.specs.Indices.{StatementFits};
 ghost use Rattle.nc_blocks.specs.Statement.{statement_view};
 ghost use Rattle.job_lines.specs.declared.limits.TheConstants.{PROGRAM_LIMIT};
 
-use axis_sets::{AXIS_LIMIT, AxisId, AxisSet, ChannelId, ZoneId};
+use axis_sets::{AxisId, AxisSet, ChannelId, ZoneId};
 use block_effects::{ChannelAxes, Parameters};
 use coordination_words::{Request, Setting, request_of};
 use job_lines::Extent;
-use job_types::{ChannelLine, Job, ZoneLine, axis_named};
+use job_types::{Job, ZoneLine, axis_named};
 use nc_blocks::{NameText, Stmt};
 
 /// The job and the channel, as a block of coordination sees them.
@@ -26,46 +25,6 @@ pub(crate) struct Coordination<'a> {
     /// The axes in its slots, and those that it owns.
     pub(crate) axes: ChannelAxes,
     ghost few: { length job.now.programs ≤ PROGRAM_LIMIT },
-}
-
-/// Whether a CHANNEL line declares the channel.
-#[tactic(auto, unfolding(crate::specs::Coordination::has_channel))]
-fn has_channel(channels: &[ChannelLine], channel: ChannelId) -> bool
-    ensures { result ≡ model.has_channel channels.now channel }
-{
-    channels.iter().any(|line| line.channel == channel)
-}
-
-/// Whether a direction is carried by this axis.
-fn is_carrier(axis: AxisId, carrier: Option<(AxisId, bool)>) -> bool
-    ensures { result ≡ is_carrier axis carrier }
-{
-    match carrier {
-        Some((other, _)) => other == axis,
-        None => false,
-    }
-}
-
-/// Whether one of the zone's directions is carried by this axis.
-#[tactic(auto, unfolding(job_types::specs::Zones::has_axis))]
-fn has_axis(zone: &ZoneLine, axis: AxisId) -> bool
-    ensures { result ≡ has_axis zone.now axis }
-{
-    zone.sides.iter().any(|side| is_carrier(axis, side.carrier))
-}
-
-/// The axes that carry a zone.
-fn zone_axes(zone: &ZoneLine) -> AxisSet
-    ensures { result ≡ model.zone_axes zone.now }
-{
-    let mut axes = AxisSet::empty();
-    for index in 0..AXIS_LIMIT as u8 {
-        let axis = AxisId { index };
-        if has_axis(zone, axis) {
-            axes = axes.with(axis);
-        }
-    }
-    axes
 }
 
 /// Whether an axis carries one of the zone's directions.
@@ -148,7 +107,7 @@ impl<'a> Setting for Coordination<'a> {
 
     fn has_channel(&self, channel: ChannelId) -> bool {
         let job = self.job;
-        has_channel(job.channels.as_slice(), channel)
+        job.has_channel(channel)
     }
 
     fn number_of(&self, name: &NameText) -> Option<u16> {
@@ -179,7 +138,7 @@ impl<'a> Setting for Coordination<'a> {
 
     fn zone_axes(&self, place: usize) -> AxisSet {
         let job = self.job;
-        zone_axes(&job.zones[place])
+        job.zones[place].carriers()
     }
 
     fn holds(&self, zone: ZoneId) -> bool {

@@ -3,7 +3,6 @@ ghost use Rattle.std.specs.Prelude.{◌≡◌, ◌<◌, ◌≤◌, length, optio
 ghost use Rattle.channel_machine.specs.StartStates as model;
 ghost use Rattle.job_lines.specs.declared.limits.TheConstants.{PROGRAM_LIMIT};
 ghost use Rattle.job_types.specs.SoundJob.{IsSoundJob};
-ghost use Rattle.job_types.specs.Zones.{has_axis, is_carrier};
 ghost use Rattle.sync_types.specs.Starts.{IsSound};
 
 use arrayvec::ArrayVec;
@@ -111,60 +110,18 @@ fn first_axes(job: &Job) -> ArrayVec<(AxisId, Option<ChannelId>, Um), AXIS_LIMIT
     axes
 }
 
-/// Whether the axis carries a direction.
-fn is_carrier(axis: AxisId, carrier: Option<(AxisId, bool)>) -> bool
-    ensures { result ≡ is_carrier axis carrier }
-{
-    match carrier {
-        Some((other, _)) => other == axis,
-        None => false,
-    }
-}
-
-/// Whether the axis carries a direction of the zone.
-#[tactic(auto, unfolding(job_types::specs::Zones::has_axis))]
-fn has_axis(zone: &ZoneLine, axis: AxisId) -> bool
-    ensures { result ≡ has_axis zone.now axis }
-{
-    zone.sides.iter().any(|side| is_carrier(axis, side.carrier))
-}
-
-/// The axes that carry a zone.
-fn carriers(zone: &ZoneLine) -> AxisSet
-    ensures { result ≡ model.carriers zone.now }
-{
-    let mut axes = AxisSet::empty();
-    for index in 0..AXIS_LIMIT as u8 {
-        let axis = AxisId { index };
-        if has_axis(zone, axis) {
-            axes = axes.with(axis);
-        }
-    }
-    axes
-}
-
-/// The ZONE line of a zone.
-fn line_of_zone(job: &Job, number: u8) -> Option<ZoneLine>
-    ensures { result ≡ model.line_of_zone job.now number }
-{
-    job.zones
-        .iter()
-        .copied()
-        .find(|zone| zone.zone.number == number)
-}
-
 /// A zone, the axes that carry it, its holder, and whether it is on.
 fn first_zone(zone: &ZoneLine) -> (ZoneId, AxisSet, Option<ChannelId>, bool)
     ensures { result ≡ model.first_zone zone.now }
 {
-    (zone.zone, carriers(zone), zone.holder, zone.on)
+    (zone.zone, zone.carriers(), zone.holder, zone.on)
 }
 
 /// What stands of a zone, if the job has it.
 fn zone_entry(job: &Job, number: u8) -> Option<(ZoneId, AxisSet, Option<ChannelId>, bool)>
     ensures { result ≡ model.zone_entry job.now number }
 {
-    match line_of_zone(job, number) {
+    match job.zone_line(ZoneId { number }) {
         Some(zone) => Some(first_zone(&zone)),
         None => None,
     }

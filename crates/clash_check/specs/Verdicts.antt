@@ -6,7 +6,7 @@ use Rattle.stop_verdicts.specs.FirstAnswer.{first_some}
 use Rattle.zone_stretches.specs.Overlaps.{Order, BoxPlace, Pair, compared_pairs}
 use Rattle.zone_stretches.specs.Pieces.{pair_meets}
 use Rattle.zone_stretches.specs.Stretches.{StretchesView}
-pub use Rattle.stop_verdicts.specs.Stops.{alarm_by, has_channel, or_else, race_verdict, stops_of, stuck_by}
+pub use Rattle.stop_verdicts.specs.Stops.{alarm_by, or_else, race_verdict, stops_of, stuck_by}
 use Rattle.sync_types.specs.Views.{RunView}
 use Rattle.sync_types.specs.declared.runs.Race.{Race}
 use Rattle.sync_types.specs.declared.verdicts.PlaceName.{PlaceName}

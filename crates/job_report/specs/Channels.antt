@@ -1,8 +1,9 @@
 -- Meaning. The lines of a channel: what it did, in order, and how it has stopped.
 use Rattle.std.specs.Prelude.{⊤, ℕ, ◌==◌, Bool, false, if◌then◌else◌, List, [], ◌++◌, filter, slice_get, codes, Option, None, Some, unwrap_or}
 use Rattle.std.specs.Fmt.{decimal}
-use Rattle.std.specs.List.{enumerate_from, filter_map, flat_map, last_or, list_any, range_with_len}
+use Rattle.std.specs.List.{enumerate_from, filter_map, flat_map, last_or, range_with_len}
 use Rattle.axis_sets.specs.declared.limits.TheConstants.{CHANNEL_LIMIT}
+use Rattle.job_types.specs.Channels.{has_channel}
 use Rattle.job_types.specs.Job.{JobView}
 use Rattle.fault_codes.specs.Codes.{IsAlarmCode}
 use Rattle.nc_faults.specs.Texts.{alarm_text_of}
@@ -13,10 +14,6 @@ use Rattle.sync_types.specs.declared.ChannelEnd.TheVariants.{Idle, Ended, Holdin
 use Rattle.sync_types.specs.declared.Item.{Item}
 use Rattle.job_report.specs.Actions.{step_line}
 use Rattle.job_report.specs.Motions.{item_line}
-
--- a line of the job declares the channel
-abbrev pub has_channel : JobView → ℕ → Bool
-has_channel job channel = list_any (λ line. line.channel == channel) job.channels
 
 -- the channels of a job, ascending
 unfoldable pub channels_of : JobView → List ℕ

@@ -52,16 +52,6 @@ fn silent_place(entries: &[Entry], channel: ChannelId, end: &ChannelEnd) -> Opti
     }
 }
 
-/// What the channel of an entry did before its step.
-fn items_at(run: &Run, place: usize) -> &[Item]
-    ensures { result.now ≡ model.items_at run.now place }
-{
-    match run.items.get(place) {
-        Some(items) => items.as_slice(),
-        None => &[],
-    }
-}
-
 /// Puts the trace line of an item.
 fn put_item<K: Sink>(page: &mut Page, sink: &mut K, job: &Job, item: &Item) -> Result<(), Failed>
     requires few { K.faults sink.old < 2 ^ 64 - 1 }
@@ -128,7 +118,7 @@ fn put_entry<K: Sink>(
         (model.entry_lines job.now run.now silent (place, entry.now)) }
     ensures cause { HasCause (K.faults sink.old) (K.faults sink.new) result }
 {
-    put_items(page, sink, job, items_at(run, place))?;
+    put_items(page, sink, job, run.items_at(place))?;
     if is_silent(silent, place) {
         return Ok(());
     }

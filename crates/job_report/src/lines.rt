@@ -1,7 +1,7 @@
 //! The lines of a report, and the line of a refused input.
 ghost use Rattle.std.specs.Prelude.{◌≡◌, ◌+◌, ◌-◌, ◌^◌, ◌<◌, ◌≤◌, [], ◌++◌, All, OnOk, length};
 ghost use Rattle.edge_io.specs.Moves.{HasCause};
-ghost use Rattle.job_report.specs.Channels.{IsListedEnd, channels_of, has_channel};
+ghost use Rattle.job_report.specs.Channels.{IsListedEnd, channels_of};
 ghost use Rattle.job_report.specs.Pages.{Puts, stage};
 ghost use Rattle.job_report.specs.Report as model;
 ghost use Rattle.job_report.specs.Verdicts.{verdict_line};
@@ -19,13 +19,6 @@ use job_types::Job;
 use nc_faults::refusal_text;
 use sync_types::{Run, Verdict};
 
-/// Whether the job has a channel.
-fn has_channel(job: &Job, channel: ChannelId) -> bool
-    ensures { result ≡ has_channel job.now channel }
-{
-    job.channels.iter().any(|line| line.channel == channel)
-}
-
 /// The channels of a job, ascending.
 #[tactic(auto, unfolding(crate::specs::Channels::channels_of))]
 fn channels_of(job: &Job) -> ArrayVec<ChannelId, CHANNEL_LIMIT>
@@ -34,7 +27,7 @@ fn channels_of(job: &Job) -> ArrayVec<ChannelId, CHANNEL_LIMIT>
     let mut channels = ArrayVec::new();
     for index in 0..CHANNEL_LIMIT as u8 {
         let channel = ChannelId { number: index + 1 };
-        if has_channel(job, channel) {
+        if job.has_channel(channel) {
             channels.push(channel);
         }
     }

@@ -1,4 +1,5 @@
 pub mod Axes
+pub mod Channels
 pub mod Job
 pub mod Slots
 pub mod SoundJob

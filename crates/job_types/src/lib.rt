@@ -2,9 +2,11 @@
 #![tactic(auto)]
 
 mod axes;
+mod channels;
 mod job;
 mod slots;
 mod threads;
+mod zones;
 
 pub use axes::{axis_at, axis_named, first_owner, start_position};
 pub use job::{AxisLine, ChannelLine, GeoLine, Job, OffsetLine, Program, Side, ZoneLine};

@@ -12,10 +12,10 @@ use Rattle.channel_machine.specs.Coordination.{has_all_of}
 use Rattle.channel_machine.specs.Grants.{grant_fits, has_none_of, has_program, is_axis_fit, is_owned_in, is_placed, is_zone_fit, is_zone_of, names_axis}
 use Rattle.channel_machine.specs.Kept.{StateView}
 use Rattle.channel_machine.specs.Run.{Channel, SurroundingsView, channel_at_start, grant_after, segment_of, surroundings_of}
-use Rattle.channel_machine.specs.StartStates.{line_of_zone, start_of}
+use Rattle.channel_machine.specs.StartStates.{start_of}
 use Rattle.job_types.specs.Job.{JobView}
 use Rattle.job_types.specs.SoundJob.{IsSoundJob}
-use Rattle.job_types.specs.Zones.{has_axis}
+use Rattle.job_types.specs.Zones.{has_axis, zone_line}
 use Rattle.job_types.specs.declared.job.ZoneLine.{ZoneLine}
 use Rattle.micro_units.specs.Position.{IsPosition, is_position}
 use Rattle.product_run.proofs.GoodBoards.{IsGoodGrant, IsGoodState}
@@ -117,12 +117,12 @@ module _ (job : JobView) (sound : IsSoundJob job) (b : Board) (at : b.start ≡ 
       (both _ _ (in_range (position_of grant.at x) (good.at x)) (placed x within))
 
   -- each axis of a zone is in the grant where the channel holds the zone, and else none
-  zone_axis : (z : ℕ) (zone : ZoneLine) → line_of_zone job z ≡ Some zone → (x : ℕ) → has_axis zone x ≡ true → has grant.axes x ≡ is_this (b.holder z) c
+  zone_axis : (z : ℕ) (zone : ZoneLine) → zone_line job z ≡ Some zone → (x : ℕ) → has_axis zone x ≡ true → has grant.axes x ≡ is_this (b.holder z) c
   zone_axis z zone line x on =
       let there = carrier_of job sound z zone line x on in
       own.axes x there.0 ∙ ap (λ (o : Option ℕ). is_this o c) (k.zones z x (ap (λ (s : StartView). has (axes_of_zone s z) x) at ∙ there.1))
 
-  zone_whole : (z : ℕ) (zone : ZoneLine) → line_of_zone job z ≡ Some zone → (has_all_of grant.axes zone || has_none_of grant.axes zone) ≡ true
+  zone_whole : (z : ℕ) (zone : ZoneLine) → zone_line job z ≡ Some zone → (has_all_of grant.axes zone || has_none_of grant.axes zone) ≡ true
   zone_whole z zone line = by_holder (is_this (b.holder z) c) refl
     where
       by_holder : (held : Bool) → is_this (b.holder z) c ≡ held → (has_all_of grant.axes zone || has_none_of grant.axes zone) ≡ true

@@ -17,11 +17,11 @@ use Rattle.block_motions.proofs.Ends.{le_or_lt}
 use Rattle.channel_machine.proofs.StartLaws.{axis_found, channel_found, zone_found}
 use Rattle.channel_machine.specs.Coordination.{has_all_of, is_carried, is_side_of}
 use Rattle.channel_machine.specs.Grants.{has_none_of, is_side_apart}
-use Rattle.channel_machine.specs.StartStates.{carriers, first_axes, first_axis, first_channel, first_zone, first_zones, line_of_channel, line_of_zone, place_of_name, start_of}
+use Rattle.channel_machine.specs.StartStates.{first_axes, first_axis, first_channel, first_zone, first_zones, line_of_channel, place_of_name, start_of}
 use Rattle.job_types.proofs.Owners.{carrier_there}
 use Rattle.job_types.specs.Job.{JobView, ProgramView}
 use Rattle.job_types.specs.SoundJob.{IsSoundJob, IsSoundZone}
-use Rattle.job_types.specs.Zones.{has_axis, is_carrier}
+use Rattle.job_types.specs.Zones.{carriers, has_axis, is_carrier, zone_line}
 use Rattle.job_types.specs.declared.job.AxisLine.{AxisLine}
 use Rattle.job_types.specs.declared.job.ChannelLine.{ChannelLine}
 use Rattle.job_types.specs.declared.job.Side.{Side}
@@ -116,20 +116,20 @@ axis_within job sound x there = by_line (slice_get job.axes x) refl
 
 -- ---- zones
 
-pub zone_there : (job : JobView) → IsSoundJob job → (z : ℕ) → is_zone (start_of job) z ≡ true → (zone : ZoneLine) × (line_of_zone job z ≡ Some zone)
+pub zone_there : (job : JobView) → IsSoundJob job → (z : ℕ) → is_zone (start_of job) z ≡ true → (zone : ZoneLine) × (zone_line job z ≡ Some zone)
 unfolding start_of
-zone_there job sound z there = by_line (line_of_zone job z) refl
+zone_there job sound z there = by_line (zone_line job z) refl
   where
-    by_line : (o : Option ZoneLine) → line_of_zone job z ≡ o → (zone : ZoneLine) × (o ≡ Some zone)
+    by_line : (o : Option ZoneLine) → zone_line job z ≡ o → (zone : ZoneLine) × (o ≡ Some zone)
     by_line None at = absurd (found_some (λ (e : ℕ × List Bool × Option ℕ × Bool). e.0 == z) (first_zones job) there (zone_found job sound z ∙ ap (option_map first_zone) at))
     by_line (Some zone) at = (zone, refl)
 
-pub axes_of_line : (job : JobView) → IsSoundJob job → (z : ℕ) (zone : ZoneLine) → line_of_zone job z ≡ Some zone → start.axes_of_zone (start_of job) z ≡ carriers zone
+pub axes_of_line : (job : JobView) → IsSoundJob job → (z : ℕ) (zone : ZoneLine) → zone_line job z ≡ Some zone → start.axes_of_zone (start_of job) z ≡ carriers zone
 unfolding start_of
 axes_of_line job sound z zone at =
     ap (λ (o : Option (ℕ × List Bool × Option ℕ × Bool)). option_map_or (λ line. line.1) o []) (zone_found job sound z ∙ ap (option_map first_zone) at)
 
-pub holder_of_line : (job : JobView) → IsSoundJob job → (z : ℕ) (zone : ZoneLine) → line_of_zone job z ≡ Some zone → start.first_holder (start_of job) z ≡ zone.holder
+pub holder_of_line : (job : JobView) → IsSoundJob job → (z : ℕ) (zone : ZoneLine) → zone_line job z ≡ Some zone → start.first_holder (start_of job) z ≡ zone.holder
 unfolding start_of
 holder_of_line job sound z zone at =
     ap (λ (o : Option (ℕ × List Bool × Option ℕ × Bool)). option_map_or (λ line. line.2) o None) (zone_found job sound z ∙ ap (option_map first_zone) at)
@@ -139,7 +139,7 @@ unfolding carriers
 carriers_are zone x within = get_or-map-range_with_len (has_axis zone) 0 AXIS_LIMIT x x false within (zero-add x)
 
 -- an axis of the zone
-pub carrier_of : (job : JobView) → IsSoundJob job → (z : ℕ) (zone : ZoneLine) → line_of_zone job z ≡ Some zone → (x : ℕ) → has_axis zone x ≡ true
+pub carrier_of : (job : JobView) → IsSoundJob job → (z : ℕ) (zone : ZoneLine) → zone_line job z ≡ Some zone → (x : ℕ) → has_axis zone x ≡ true
     → (x < AXIS_LIMIT) × (has (start.axes_of_zone (start_of job) z) x ≡ true)
 carrier_of job sound z zone at x on =
     let few : length job.axes ≤ AXIS_LIMIT = sound.few_axes in
@@ -231,7 +231,7 @@ not_carried zone still x = by_sides zone.sides still
         by_carrier (Some carrier) none rest = no_truth true refl none
 
 -- a zone that no axis carries
-pub no_carrier : (job : JobView) → IsSoundJob job → (z : ℕ) (zone : ZoneLine) → line_of_zone job z ≡ Some zone → is_carried zone ≡ false
+pub no_carrier : (job : JobView) → IsSoundJob job → (z : ℕ) (zone : ZoneLine) → zone_line job z ≡ Some zone → is_carried zone ≡ false
     → (x : ℕ) → has (start.axes_of_zone (start_of job) z) x ≡ false
 no_carrier job sound z zone at still x = ap (λ (axes : List Bool). has axes x) (axes_of_line job sound z zone at) ∙ by_place (le_or_lt AXIS_LIMIT x)
   where

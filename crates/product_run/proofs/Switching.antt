@@ -3,7 +3,8 @@ use Rattle.axis_sets.specs.declared.limits.TheConstants.{AXIS_LIMIT}
 use Rattle.std.proofs.Common.{◌≡◌, ◌∙◌, ℕ, zero, suc, ◌<◌, Bool, true, false, cond, List, [], ◌∷◌, ◌++◌, length, slice_get, Option, Some, None, refl, sym, ap, subst, eqb-true, eq-eqb}
 use Rattle.axis_sets.specs.Sets.{has}
 use Rattle.channel_machine.specs.Coordination.{has_all_of, holds_zone, is_carried, is_held}
-use Rattle.channel_machine.specs.StartStates.{line_of_zone, start_of}
+use Rattle.job_types.specs.Zones.{zone_line}
+use Rattle.channel_machine.specs.StartStates.{start_of}
 use Rattle.coordination_words.specs.Settings.{SettingView}
 use Rattle.job_types.specs.Axes.{is_of}
 use Rattle.job_types.specs.Job.{JobView}
@@ -41,7 +42,7 @@ of_channel (Some d) c is = ap (λ (n : ℕ). Some n) (eqb-true d c is)
 
 -- the line of a zone that a channel with these axes holds
 held_line : (job : JobView) → IsSoundJob job → (c : ℕ) (axes : List Bool) (z : ℕ) → holds_zone c job.zones axes z ≡ true
-    → (zone : ZoneLine) × (line_of_zone job z ≡ Some zone) × (is_held c axes zone ≡ true)
+    → (zone : ZoneLine) × (zone_line job z ≡ Some zone) × (is_held c axes zone ≡ true)
 unfolding holds_zone
 held_line job sound c axes z holds = found_once (λ (l : ZoneLine). l.zone) (is_held c axes) job.zones z sound.zone_numbers holds
 
@@ -51,7 +52,7 @@ module _ (job : JobView) (sound : IsSoundJob job) (count : ℕ) (b : Board) (at 
   from_start : (z x : ℕ) → has (axes_of_zone (start_of job) z) x ≡ true → has (axes_of_zone b.start z) x ≡ true
   from_start z x on = ap (λ (s : StartView). has (axes_of_zone s z) x) at ∙ on
 
-  pub holder_there : (z : ℕ) (zone : ZoneLine) → line_of_zone job z ≡ Some zone → is_held c axes zone ≡ true → b.holder z ≡ Some c
+  pub holder_there : (z : ℕ) (zone : ZoneLine) → zone_line job z ≡ Some zone → is_held c axes zone ≡ true → b.holder z ≡ Some c
   unfolding is_held
   holder_there z zone line held = by_carried (is_carried zone) refl held
     where
@@ -65,7 +66,7 @@ module _ (job : JobView) (sound : IsSoundJob job) (count : ℕ) (b : Board) (at 
           k.alone z (λ x. ap (λ (s : StartView). has (axes_of_zone s z) x) at ∙ no_carrier job sound z zone line is x)
           ∙ ap (λ (s : StartView). first_holder s z) at ∙ holder_of_line job sound z zone line ∙ of_channel zone.holder c held
 
-  pub holds_there : (z : ℕ) (zone : ZoneLine) → line_of_zone job z ≡ Some zone → is_held c axes zone ≡ true → HoldsZone b c z
+  pub holds_there : (z : ℕ) (zone : ZoneLine) → zone_line job z ≡ Some zone → is_held c axes zone ≡ true → HoldsZone b c z
   holds_there z zone line held =
       let holder : b.holder z ≡ Some c = holder_there z zone line held in
       record {

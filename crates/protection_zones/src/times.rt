@@ -15,13 +15,13 @@ ghost use Rattle.zone_stretches.specs.ZoneBoxes.{IsFit};
 use crate::logs::{Log, log_of};
 use crate::tenures::terms_of;
 use crate::zone_time::Scene;
-use axis_sets::ZONE_LIMIT;
+use axis_sets::{ZONE_LIMIT, ZoneId};
 use job_types::Job;
 use order_clocks::Clocks;
 use out_of_memory::NoMemory;
 use std::alloc::{AllocError, Global};
-use sync_types::{ChannelEnd, Entry, Item, Run};
-use zone_stretches::{Stretch, Stretches, zone_numbered};
+use sync_types::{Item, Run};
+use zone_stretches::{Stretch, Stretches};
 
 /// The stretches of a zone.
 #[tactic(auto, unfolding(zone_stretches::specs::Stretches::stretches_of_zone))]
@@ -54,7 +54,7 @@ fn stretches_in_order(
 {
     let mut zones = Vec::new(alloc);
     for index in 0..ZONE_LIMIT as u8 {
-        if let Some(zone) = zone_numbered(job, index + 1) {
+        if let Some(zone) = job.zone_line(ZoneId { number: index + 1 }) {
             let scene = Scene {
                 job,
                 zone: &zone,
@@ -65,27 +65,6 @@ fn stretches_in_order(
         }
     }
     Ok(zones)
-}
-
-/// The entries of a run.
-fn entries_of(run: &Run) -> &[Entry]
-    ensures { result.now ≡ run.now.entries }
-{
-    run.entries.as_slice()
-}
-
-/// What the channel of each entry did before it.
-fn items_of(run: &Run) -> &[Vec<Item>]
-    ensures { all_items result.now ≡ run.now.items }
-{
-    run.items.as_slice()
-}
-
-/// The ends of a run.
-fn ends_of(run: &Run) -> &[ChannelEnd]
-    ensures { result.now ≡ run.now.ends }
-{
-    run.ends.as_slice()
 }
 
 /// The stretches of each zone as they are told.
@@ -113,7 +92,7 @@ pub fn stretches_of(
         → IfOk result (λ s. s ≡ all_stretches job.now (first_board start) run.now) }
 {
     let _ = clocks;
-    let log = log_of(alloc, job, entries_of(run), ends_of(run))?;
-    let zones = stretches_in_order(alloc, job, items_of(run), &log)?;
+    let log = log_of(alloc, job, run.entries(), run.ends())?;
+    let zones = stretches_in_order(alloc, job, run.items(), &log)?;
     Ok(told(zones))
 }

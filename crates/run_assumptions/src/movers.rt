@@ -1,5 +1,5 @@
 //! Who moves an axis first.
-ghost use Rattle.std.specs.Prelude.{◌≡◌, ◌==◌, [], find, is_some, slice_index_or, IfOk, None};
+ghost use Rattle.std.specs.Prelude.{◌≡◌, ◌==◌, find, is_some, slice_index_or, IfOk, None};
 ghost use Rattle.path_geometry.specs.Motions.{axis_end};
 ghost use Rattle.run_assumptions.specs.Rows as model;
 
@@ -59,22 +59,12 @@ fn line_moving(items: &[Item], axis: AxisId) -> Option<u32>
     None
 }
 
-/// What the channel of an entry did before it; nothing past the last entry.
-fn items_at(run: &Run, place: usize) -> &[Item]
-    ensures { result.now ≡ slice_index_or run.now.items place [] }
-{
-    match run.items.get(place) {
-        None => &[],
-        Some(items) => items.as_slice(),
-    }
-}
-
 /// The channel of an entry, and the first line in which it moves an axis before it.
 fn mover_at(run: &Run, place: usize, axis: AxisId) -> Option<Mover>
     ensures { result ≡ model.mover_at axis run.now place }
 {
     match run.entries.get(place) {
-        Some(entry) => match line_moving(items_at(run, place), axis) {
+        Some(entry) => match line_moving(run.items_at(place), axis) {
             Some(line) => Some(Mover {
                 channel: entry.channel,
                 line,

@@ -1,5 +1,5 @@
 -- Meaning. The words of a drawing: what a reader of it is told of boxes, ways and blocks.
-use Rattle.std.specs.Prelude.{ℕ, ℤ, ◌+◌, ◌==◌, Bool, List, [], ◌∷◌, ◌++◌, if◌then◌else◌, drop, take, find, Option, None, Some, codes}
+use Rattle.std.specs.Prelude.{ℕ, ℤ, ◌+◌, ◌==◌, Bool, List, [], ◌∷◌, ◌++◌, if◌then◌else◌, drop, take, Option, None, Some, codes}
 use Rattle.std.specs.Fmt.{decimal}
 use Rattle.std.specs.List.{position}
 use Rattle.std.specs.Option.{option_map_or}
@@ -7,7 +7,7 @@ use Rattle.growing_text.specs.Lengths.{millimetres_text}
 use Rattle.input_lines.specs.Lines.{line_text}
 use Rattle.input_lines.specs.Numbers.{block_number_of}
 use Rattle.job_types.specs.Job.{JobView}
-use Rattle.job_types.specs.declared.job.ZoneLine.{ZoneLine}
+use Rattle.job_types.specs.Zones.{zone_line}
 use Rattle.picture_views.specs.Marks.{along}
 use Rattle.picture_views.specs.Shown.{shown_text}
 use Rattle.picture_views.specs.declared.shapes.Tile.{Tile}
@@ -44,10 +44,6 @@ zone_words name = codes "zone " ++ (decimal name.zone ++ holder_words name.chann
 -- it moves, or it stands
 abbrev pub motion_words : Bool → List ℕ
 motion_words moves = if moves then codes " moves: " else codes " stands: "
-
--- the ZONE line of a zone
-unfoldable pub zone_line : JobView → ℕ → Option ZoneLine
-zone_line job number = find (λ zone. zone.zone == number) job.zones
 
 -- where a zone is declared
 unfoldable pub declared_words : List ℕ → JobView → ℕ → List ℕ

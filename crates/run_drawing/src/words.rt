@@ -4,10 +4,9 @@ ghost use Rattle.std.specs.List.{position};
 ghost use Rattle.told_places.specs.Lines.{number_text, of_text};
 ghost use Rattle.run_drawing.specs.Words as model;
 
-use axis_sets::ChannelId;
+use axis_sets::{ChannelId, ZoneId};
 use growing_text::Text;
 use input_lines::{Lines, block_number};
-use job_types::{Job, ZoneLine};
 use picture_views::{Tile, Track, along, put_shown};
 use sync_types::PlaceName;
 use told_places::{Told, program_name, say_channel};
@@ -120,23 +119,12 @@ fn motion_words(moves: bool) -> &'static str
     if moves { " moves: " } else { " stands: " }
 }
 
-/// The ZONE line of a zone.
-#[tactic(auto, unfolding(crate::specs::Words::zone_line))]
-fn zone_line(job: &Job, number: u8) -> Option<ZoneLine>
-    ensures { result ≡ model.zone_line job.now number }
-{
-    job.zones
-        .iter()
-        .copied()
-        .find(|zone| zone.zone.number == number)
-}
-
 /// Writes where a zone is declared.
 #[tactic(auto, unfolding(crate::specs::Words::declared_words))]
 fn put_declared(text: &mut Text, told: &Told, number: u8)
     ensures { text.new ≡ text.old ++ model.declared_words told.now.lines.now told.now.job.now number }
 {
-    if let Some(zone) = zone_line(told.job, number) {
+    if let Some(zone) = told.job.zone_line(ZoneId { number }) {
         put_block(text, told, zone.line);
     }
 }

@@ -171,25 +171,11 @@ fn board_after(first: LastBoard, entries: &[Entry], ends: &[ChannelEnd]) -> Last
     board
 }
 
-/// The entries of a run.
-fn entries_of(run: &Run) -> &[Entry]
-    ensures { result.now ≡ run.now.entries }
-{
-    run.entries.as_slice()
-}
-
-/// How its channels have stopped.
-fn ends_of(run: &Run) -> &[ChannelEnd]
-    ensures { result.now ≡ run.now.ends }
-{
-    run.ends.as_slice()
-}
-
 /// What stands at the end of a whole run from this start. It takes no memory.
 pub fn last_board(start: &StartState, run: &Run) -> LastBoard
     requires few { length run.now.entries < 2 ^ 32 }
     requires whole { ComesFrom start.now run.now }
     ensures { IsTold result (after_entries (first_board start.now) run.now.entries) }
 {
-    board_after(LastBoard::first(start), entries_of(run), ends_of(run))
+    board_after(LastBoard::first(start), run.entries(), run.ends())
 }

@@ -1,7 +1,8 @@
 -- Meaning. What the channels of a run do in each step.
-use Rattle.std.specs.Prelude.{ℕ, ◌+◌, ◌-◌, ◌^◌, min, ◌==◌, Bool, List, [], ◌∷◌, ◌++◌, filter, map}
-use Rattle.std.specs.List.{list_any, range_with_len}
+use Rattle.std.specs.Prelude.{ℕ, ◌+◌, ◌-◌, ◌^◌, min, List, [], ◌∷◌, ◌++◌, filter, map}
+use Rattle.std.specs.List.{range_with_len}
 use Rattle.axis_sets.specs.declared.limits.TheConstants.{CHANNEL_LIMIT}
+use Rattle.job_types.specs.Channels.{has_channel}
 use Rattle.job_types.specs.Job.{JobView}
 use Rattle.picture_views.specs.declared.shapes.Deed.{Deed}
 use Rattle.picture_views.specs.declared.shapes.Deed.TheVariants.{Acts, Waits, GoesOn, Ends}
@@ -42,8 +43,5 @@ moments_from step [] = []
 moments_from step (entry ∷ entries) = moments_of step entry ++ moments_from (min (step + 1) (2 ^ 32 - 1)) entries
 
 -- the channels of a job, ascending
-abbrev pub has_channel : JobView → ℕ → Bool
-has_channel job number = list_any (λ line. line.channel == number) job.channels
-
 unfoldable pub channels_of : JobView → List ℕ
 channels_of job = filter (has_channel job) (range_with_len 1 CHANNEL_LIMIT)

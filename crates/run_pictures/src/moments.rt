@@ -3,7 +3,7 @@ ghost use Rattle.std.specs.Prelude.{◌≡◌, ◌++◌, IfOk, map, take};
 ghost use Rattle.run_pictures.specs.Moments as model;
 
 use crate::kept::keep;
-use axis_sets::CHANNEL_PLACES;
+use axis_sets::{CHANNEL_PLACES, ChannelId};
 use job_types::Job;
 use out_of_memory::NoMemory;
 use picture_views::{Deed, Moment};
@@ -101,14 +101,6 @@ pub(crate) fn add_entries(
     Ok(())
 }
 
-/// Whether a job has a channel.
-fn has_channel(job: &Job, number: u8) -> bool
-    ensures { result ≡ model.has_channel job.now number }
-{
-    let lines = job.channels.as_slice();
-    lines.iter().any(|line| line.channel.number == number)
-}
-
 /// The numbers of the channels of a job, ascending.
 #[tactic(auto, unfolding(crate::specs::Moments::channels_of))]
 pub(crate) fn channels_of(alloc: Global, job: &Job) -> Result<Vec<u8>, NoMemory>
@@ -116,7 +108,8 @@ pub(crate) fn channels_of(alloc: Global, job: &Job) -> Result<Vec<u8>, NoMemory>
 {
     let mut channels = Vec::new(alloc);
     for index in 0..CHANNEL_PLACES as u8 - 1 {
-        if has_channel(job, index + 1) {
+        let channel = ChannelId { number: index + 1 };
+        if job.has_channel(channel) {
             channels.push(index + 1)?;
         }
     }

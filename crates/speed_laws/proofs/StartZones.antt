@@ -8,11 +8,11 @@ use Rattle.std.proofs.lemmas.List.FromFn.{get_or-map-range_with_len, length-map-
 use Rattle.axis_sets.specs.Sets.{has}
 use Rattle.axis_sets.specs.declared.limits.TheConstants.{AXIS_LIMIT, ZONE_LIMIT}
 use Rattle.channel_machine.proofs.StartLaws.{zone_found}
-use Rattle.channel_machine.specs.StartStates.{carriers, line_of_zone, start_of}
+use Rattle.channel_machine.specs.StartStates.{start_of}
 use Rattle.job_types.proofs.Owners.{carrier_there}
 use Rattle.job_types.specs.Job.{JobView}
 use Rattle.job_types.specs.SoundJob.{IsSoundJob, IsSoundZone}
-use Rattle.job_types.specs.Zones.{has_axis, zones_in_order}
+use Rattle.job_types.specs.Zones.{carriers, has_axis, zone_line, zones_in_order}
 use Rattle.job_types.specs.declared.job.ZoneLine.{ZoneLine}
 use Rattle.number_laws.proofs.Lists.{All-found, found_passes}
 use Rattle.speed_laws.specs.ZoneTimes.{ZoneTimesInOrder}
@@ -35,11 +35,11 @@ carried_at job sound zone is x = by_place (le_or_lt AXIS_LIMIT x)
         get_or_past (map (has_axis zone) (range_with_len 0 AXIS_LIMIT)) x false (omega arith) ∙ sym none
     by_place (inr within) = get_or-map-range_with_len (has_axis zone) 0 AXIS_LIMIT x x false within (zero-add x)
 
-zone_starts : (job : JobView) → IsSoundJob job → (n : ℕ) (zone : ZoneLine) → line_of_zone job n ≡ Some zone → IsZoneOf (start_of job) zone
+zone_starts : (job : JobView) → IsSoundJob job → (n : ℕ) (zone : ZoneLine) → zone_line job n ≡ Some zone → IsZoneOf (start_of job) zone
 unfolding start_of
 zone_starts job sound n zone at =
     let number : zone.zone ≡ n = eqb-true zone.zone n (found_passes (λ (l : ZoneLine). l.zone == n) job.zones zone at) in
-    let line : line_of_zone job zone.zone ≡ Some zone = ap (line_of_zone job) number ∙ at in
+    let line : zone_line job zone.zone ≡ Some zone = ap (zone_line job) number ∙ at in
     let is : IsSoundZone job zone = All-found (IsSoundZone job) (λ (l : ZoneLine). l.zone == n) job.zones zone sound.zones at in
     record {
       holder = rw (zone_found job sound zone.zone, line) refl;
@@ -48,9 +48,9 @@ zone_starts job sound n zone at =
 
 each_starts : (job : JobView) → IsSoundJob job → (numbers : List ℕ) → All (IsZoneOf (start_of job)) (filter_map (λ number. find (λ zone. zone.zone == number) job.zones) numbers)
 each_starts job sound [] = All-nil (IsZoneOf (start_of job))
-each_starts job sound (n ∷ numbers) = by_line (line_of_zone job n) refl (each_starts job sound numbers)
+each_starts job sound (n ∷ numbers) = by_line (zone_line job n) refl (each_starts job sound numbers)
   where
-    by_line : (o : Option ZoneLine) → line_of_zone job n ≡ o → All (IsZoneOf (start_of job)) (filter_map (λ number. find (λ zone. zone.zone == number) job.zones) numbers)
+    by_line : (o : Option ZoneLine) → zone_line job n ≡ o → All (IsZoneOf (start_of job)) (filter_map (λ number. find (λ zone. zone.zone == number) job.zones) numbers)
         → All (IsZoneOf (start_of job)) (cons_option o (filter_map (λ number. find (λ zone. zone.zone == number) job.zones) numbers))
     by_line None at rest = rest
     by_line (Some zone) at rest = All-cons (IsZoneOf (start_of job)) zone (filter_map (λ number. find (λ z. z.zone == number) job.zones) numbers) (zone_starts job sound n zone at) rest

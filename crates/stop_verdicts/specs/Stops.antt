@@ -1,6 +1,7 @@
 -- Meaning. The verdict on a run with a race, or of which a channel has stopped before its end.
-use Rattle.std.specs.Prelude.{ℕ, ◌==◌, Bool, List, filter, Option, None, Some}
-use Rattle.std.specs.List.{list_any, zip}
+use Rattle.std.specs.Prelude.{ℕ, List, filter, Option, None, Some}
+use Rattle.std.specs.List.{zip}
+use Rattle.job_types.specs.Channels.{has_channel}
 use Rattle.job_types.specs.Job.{JobView}
 use Rattle.sync_types.specs.Boards.{channel_numbers}
 use Rattle.sync_types.specs.Views.{RunView}
@@ -9,9 +10,6 @@ use Rattle.sync_types.specs.declared.ChannelEnd.TheVariants as end
 use Rattle.sync_types.specs.declared.runs.Race.{Race}
 use Rattle.sync_types.specs.declared.verdicts.Verdict.{Verdict}
 use Rattle.sync_types.specs.declared.verdicts.Verdict.TheVariants as verdicts
-
-abbrev pub has_channel : JobView → ℕ → Bool
-has_channel job channel = list_any (λ line. line.channel == channel) job.channels
 
 -- each channel of the job with how it has stopped, the lowest first
 unfoldable pub stops_of : JobView → RunView → List (ℕ × ChannelEnd)

@@ -1,47 +1,27 @@
 //! How the channels of a job have stopped.
-ghost use Rattle.std.specs.Prelude.{◌≡◌, ◌==◌};
+ghost use Rattle.std.specs.Prelude.{◌≡◌};
 ghost use Rattle.stop_verdicts.specs.FirstAnswer.{first_some};
 ghost use Rattle.stop_verdicts.specs.Stops as model;
 
 use arrayvec::ArrayVec;
 use axis_sets::{CHANNEL_LIMIT, CHANNEL_PLACES, ChannelId};
-use job_types::{ChannelLine, Job};
+use job_types::Job;
 use sync_types::{ChannelEnd, Run, Verdict};
 
 /// The channels of a job with how each has stopped.
 pub(crate) type Stops = ArrayVec<(ChannelId, ChannelEnd), CHANNEL_LIMIT>;
-
-/// Whether a line declares a channel of this number.
-fn is_numbered(line: &ChannelLine, number: u8) -> bool
-    ensures { result ≡ (line.now.channel == number) }
-{
-    line.channel.number == number
-}
-
-/// Whether a job has a channel of this number.
-fn has_channel(job: &Job, number: u8) -> bool
-    ensures { result ≡ model.has_channel job.now number }
-{
-    job.channels.iter().any(|line| is_numbered(line, number))
-}
-
-/// How the channels of a run have stopped.
-fn ends_of(run: &Run) -> &[ChannelEnd]
-    ensures { result.now ≡ run.now.ends }
-{
-    run.ends.as_slice()
-}
 
 /// Each channel of a job with how it has stopped, the lowest first.
 #[tactic(auto, unfolding(crate::specs::Stops::stops_of))]
 pub(crate) fn stops_of(job: &Job, run: &Run) -> Stops
     ensures { result.items ≡ model.stops_of job.now run.now }
 {
-    let ends = ends_of(run);
+    let ends = run.ends();
     let mut stops = ArrayVec::new();
     for number in 1..CHANNEL_PLACES as u8 {
-        if has_channel(job, number) && stops.len() < ends.len() {
-            stops.push((ChannelId { number }, ends[stops.len()]));
+        let channel = ChannelId { number };
+        if job.has_channel(channel) && stops.len() < ends.len() {
+            stops.push((channel, ends[stops.len()]));
         }
     }
     stops

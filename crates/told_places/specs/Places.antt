@@ -1,9 +1,9 @@
 -- Meaning. What a channel does during a box of a zone.
-use Rattle.std.specs.Prelude.{ℕ, ◌-◌, ◌==◌, Bool, true, false, List, [], ◌++◌, if◌then◌else◌, slice_get, slice_index_or, find, Option, None, Some, codes}
+use Rattle.std.specs.Prelude.{ℕ, ◌-◌, ◌==◌, Bool, true, false, List, [], ◌++◌, if◌then◌else◌, slice_get, slice_index_or, Option, None, Some, codes}
 use Rattle.std.specs.Fmt.{decimal}
 use Rattle.std.specs.Option.{option_and_then, option_map_or}
 use Rattle.job_types.specs.Job.{JobView}
-use Rattle.job_types.specs.declared.job.ZoneLine.{ZoneLine}
+use Rattle.job_types.specs.Zones.{zone_line}
 use Rattle.path_geometry.specs.declared.motion.Motion.{Motion}
 use Rattle.sync_types.specs.Items.{motion_of}
 use Rattle.sync_types.specs.Views.{RunView}
@@ -35,10 +35,6 @@ zone_text place = codes "zone " ++ (decimal place.name.zone ++ held_text place.n
 -- the channel that holds a zone, if one does
 unfoldable pub holder_text : Place → List ℕ
 holder_text place = option_map_or channel_text place.name.channel []
-
--- the ZONE line of a zone
-unfoldable pub zone_line : JobView → ℕ → Option ZoneLine
-zone_line job number = find (λ zone. zone.zone == number) job.zones
 
 -- which execution of its block a motion is
 unfoldable pub execution_text : RunView → Place → List ℕ

@@ -49,16 +49,6 @@ fn count_at(items: &[Item], line: u32) -> usize
     count
 }
 
-/// What the channel of an entry did before it; nothing past the last entry.
-fn items_at(run: &Run, entry: usize) -> &[Item]
-    ensures { result.now ≡ slice_index_or run.now.items entry [] }
-{
-    match run.items.get(entry) {
-        None => &[],
-        Some(items) => items.as_slice(),
-    }
-}
-
 /// Whether an entry is of a channel.
 fn is_of(entry: &Entry, channel: ChannelId) -> bool
     ensures { result ≡ (entry.now.channel == channel) }
@@ -74,7 +64,7 @@ fn count_in(run: &Run, channel: ChannelId, line: u32, place: usize) -> usize
     match run.entries.get(place) {
         Some(entry) => {
             if is_of(entry, channel) {
-                count_at(items_at(run, place), line)
+                count_at(run.items_at(place), line)
             } else {
                 0
             }
@@ -99,7 +89,7 @@ fn count_before(run: &Run, channel: ChannelId, line: u32, upto: usize) -> u64
 fn front_of(run: &Run, entry: usize, count: usize) -> &[Item]
     ensures { result.now ≡ take count (slice_index_or run.now.items entry []) }
 {
-    let items = items_at(run, entry);
+    let items = run.items_at(entry);
     if count <= items.len() {
         &items[..count]
     } else {

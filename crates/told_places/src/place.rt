@@ -1,5 +1,5 @@
 //! Boxes of zones, and what is told of them.
-ghost use Rattle.std.specs.Prelude.{◌≡◌, [], option_copied, slice_get, slice_index_or};
+ghost use Rattle.std.specs.Prelude.{◌≡◌, option_copied, slice_get};
 ghost use Rattle.told_places.specs.Places as model;
 
 use path_geometry::Motion;
@@ -36,16 +36,6 @@ pub struct Meeting {
     pub right: Place,
 }
 
-/// What the channel of an entry did before it; nothing past the last entry.
-fn items_at(run: &Run, entry: usize) -> &[Item]
-    ensures { result.now ≡ slice_index_or run.now.items entry [] }
-{
-    match run.items.get(entry) {
-        None => &[],
-        Some(items) => items.as_slice(),
-    }
-}
-
 /// The item of a place, counted from 0, if there is one.
 fn item_at(items: &[Item], place: usize) -> Option<&Item>
     ensures { option_copied result ≡ slice_get items.now place }
@@ -58,7 +48,7 @@ fn motion_at(run: &Run, entry: u32, place: u32) -> Option<&Motion>
     ensures { option_copied result ≡ model.motion_at run.now entry place }
 {
     match item_at(
-        items_at(run, entry as usize),
+        run.items_at(entry as usize),
         (place as usize).saturating_sub(1),
     ) {
         None => None,

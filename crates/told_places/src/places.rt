@@ -6,9 +6,8 @@ use crate::executions::execution_at;
 use crate::place::{Place, motion_of};
 use crate::told::{Told, say_block, say_channel};
 use crate::ways::say_motion;
-use axis_sets::ChannelId;
+use axis_sets::{ChannelId, ZoneId};
 use growing_text::Text;
-use job_types::{Job, ZoneLine};
 use path_geometry::Motion;
 use sync_types::StretchKind;
 
@@ -46,17 +45,6 @@ fn say_holder(text: &mut Text, place: &Place)
     }
 }
 
-/// The ZONE line of a zone.
-#[tactic(auto, unfolding(crate::specs::Places::zone_line))]
-fn zone_line(job: &Job, number: u8) -> Option<ZoneLine>
-    ensures { result ≡ model.zone_line job.now number }
-{
-    job.zones
-        .iter()
-        .copied()
-        .find(|zone| zone.zone.number == number)
-}
-
 /// Says which execution of its block a motion is.
 #[tactic(auto, unfolding(crate::specs::Places::execution_text))]
 fn say_execution(text: &mut Text, told: &Told, place: &Place)
@@ -90,7 +78,7 @@ fn say_moving(text: &mut Text, told: &Told, place: &Place, motion: &Motion)
 fn say_declared(text: &mut Text, told: &Told, number: u8)
     ensures { text.new ≡ text.old ++ model.declared_text told.now.lines.now told.now.job.now number }
 {
-    if let Some(zone) = zone_line(told.job, number) {
+    if let Some(zone) = told.job.zone_line(ZoneId { number }) {
         say_block(text, told, zone.line);
     }
 }

@@ -3,7 +3,8 @@ use Rattle.std.proofs.Common.{◌≡◌, ◌∙◌, ℕ, zero, suc, nat_lt, List
 use Rattle.clash_check.specs.Counts.{count_of}
 use Rattle.clash_check.specs.FirstAnswer.{first_some}
 use Rattle.clash_check.specs.Verdicts.{alarm_by, budget_verdict, meeting_verdict, or_else, stuck_by, verdict_by}
-use Rattle.stop_verdicts.specs.Stops.{has_channel, stops_of}
+use Rattle.job_types.specs.Channels.{has_channel}
+use Rattle.stop_verdicts.specs.Stops.{stops_of}
 use Rattle.job_types.specs.Job.{JobView}
 use Rattle.zone_stretches.specs.Overlaps.{Order, compared_pairs}
 use Rattle.zone_stretches.specs.Stretches.{StretchView}

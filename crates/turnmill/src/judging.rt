@@ -105,16 +105,9 @@ fn goes_in(entry: &Entry) -> usize
 fn see_goes(run: &Run)
     ensures { All (λ e. length e.goes ≤ CHANNEL_LIMIT) run.now.entries }
 {
-    for entry in entries_of(run) {
+    for entry in run.entries() {
         let _count = goes_in(entry);
     }
-}
-
-/// The steps of a run.
-pub(crate) fn entries_of(run: &Run) -> &[Entry]
-    ensures { result.now ≡ run.now.entries }
-{
-    run.entries.as_slice()
 }
 
 /// How many pairs of boxes are compared.

@@ -11,7 +11,7 @@ ghost use Rattle.turnmill.specs.Output.{CallsForReport, IsAnswer, IsReadWhole, R
 ghost use Rattle.turnmill.specs.Words.{call_of, words_of};
 
 use crate::check::{InputFault, answer_refusal, check_words, read_job_from, write_report};
-use crate::judging::{Judgement, entries_of, judge_by_threads, judge_in_order};
+use crate::judging::{Judgement, judge_by_threads, judge_in_order};
 use crate::words::is_run;
 use edge_io::{Gate, Sink, Source};
 use exit_statuses::Status;
@@ -85,7 +85,7 @@ fn answer_run<R: Threads + Wait + Sync, K: Sink, G: Gate + Sync>(
     let Ok(judgement) = judge_made(rt, alloc, job, run) else {
         return Status::NoMemory;
     };
-    tell(gate, entries_of(&judgement.run));
+    tell(gate, judgement.run.entries());
     let status = write_report(job, &judgement, sink);
     forget(judgement);
     status

@@ -1,5 +1,5 @@
 //! The sample of a number: its job is judged, and told in two lines.
-ghost use Rattle.std.specs.Prelude.{◌≡◌, ◌≢◌, ◌↔◌, ◌-◌, ◌^◌, ◌<◌, ◌≤◌, All, length, map, sum_by, IfSome, Ok};
+ghost use Rattle.std.specs.Prelude.{◌≡◌, ◌≢◌, ◌↔◌, ◌-◌, ◌^◌, ◌<◌, ◌≤◌, All, length, sum_by, IfSome, Ok};
 ghost use Rattle.job_lines.specs.declared.limits.TheConstants.{INPUT_LIMIT};
 ghost use Rattle.job_report.specs.Channels.{IsListedEnd};
 ghost use Rattle.job_report.specs.Report.{report_bytes};
@@ -46,13 +46,6 @@ fn moves_of(items: &[Item]) -> usize
     count
 }
 
-/// What the channels did before each step.
-fn items_of(run: &Run) -> &[Vec<Item>]
-    ensures { map (λ items. items.items) result.now ≡ run.now.items }
-{
-    run.items.as_slice()
-}
-
 /// How many motions these are.
 fn all_moves(rows: &[Vec<Item>]) -> usize
     requires { sum_by (λ items. length items.items) rows.now < 2 ^ 20 }
@@ -70,7 +63,7 @@ fn move_count(run: &Run) -> usize
     requires { sum_by length run.now.items < 2 ^ 20 }
     ensures { result ≡ move_count run.now }
 {
-    all_moves(items_of(run))
+    all_moves(run.items())
 }
 
 /// How many bytes the report of a job has; `None` where their number does not fit 64 bits.

@@ -24,4 +24,4 @@ pub use pieces::{boxes_by_pieces, boxes_in_pieces, motion_at, one_box};
 pub use sights::Sight;
 pub use stretches::{Stretch, Stretches, ZoneBox, lists_of};
 pub use zone_boxes::{standing_zone_box, zone_box};
-pub use zones::{zone_at, zone_numbered};
+pub use zones::zone_at;

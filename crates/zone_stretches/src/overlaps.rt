@@ -9,18 +9,11 @@ use axis_sets::ChannelId;
 use order_clocks::Clocks;
 use sync_types::EventId;
 
-/// Whether two names are those of one event.
-fn is_same(a: &EventId, b: &EventId) -> bool
-    ensures { result ≡ is_same_event a.now b.now }
-{
-    a.step == b.step && a.channel.number == b.channel.number && (if a.go { b.go } else { !b.go })
-}
-
 /// Whether an event is another or before it.
 pub(crate) fn is_upto(clocks: &Clocks, a: &EventId, b: &EventId) -> bool
     ensures { result ≡ (is_same_event a.now b.now || is_before_in clocks.now.rows a.now b.now) }
 {
-    is_same(a, b) || clocks.before(*a, *b)
+    a.is_same(b) || clocks.before(*a, *b)
 }
 
 /// Whether the event with which a stretch ends is neither the one with which another begins nor before it.

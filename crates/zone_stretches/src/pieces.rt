@@ -1,5 +1,5 @@
 //! The boxes by which a box of a zone is compared: those of the pieces of its motion.
-ghost use Rattle.std.specs.Prelude.{◌≡◌, ◌<◌, ◌≤◌, [], ◌∷◌, ◌-◌, All, IfSome, map, option_copied, slice_get, slice_index_or};
+ghost use Rattle.std.specs.Prelude.{◌≡◌, ◌<◌, ◌≤◌, [], ◌∷◌, ◌-◌, All, IfSome, map, option_copied, slice_get};
 ghost use Rattle.job_lines.specs.declared.limits.TheConstants.{DEPTH_LIMIT};
 ghost use Rattle.path_geometry.specs.Motions.{IsSound};
 ghost use Rattle.swept_boxes.specs.Boxes.{low_of, high_of};
@@ -16,16 +16,6 @@ use path_geometry::Motion;
 use swept_boxes::{Box3, PIECE_LIMIT, Ranges, pieces_of};
 use sync_types::{Item, Run};
 
-/// What the channel of an entry did before it; nothing past the last entry.
-fn items_at(run: &Run, entry: usize) -> &[Item]
-    ensures { result.now ≡ slice_index_or run.now.items entry [] }
-{
-    match run.items.get(entry) {
-        None => &[],
-        Some(items) => items.as_slice(),
-    }
-}
-
 /// The item of this number.
 fn item_at(items: &[Item], place: usize) -> Option<&Item>
     ensures { option_copied result ≡ slice_get items.now place }
@@ -40,7 +30,7 @@ pub fn motion_at(run: &Run, entry: u32, place: Option<u32>) -> Option<&Motion>
     match place {
         None => None,
         Some(place) => match item_at(
-            items_at(run, entry as usize),
+            run.items_at(entry as usize),
             (place as usize).saturating_sub(1),
         ) {
             None => None,

@@ -1,19 +1,9 @@
 //! The zones of a job by their numbers and by their places.
-ghost use Rattle.std.specs.Prelude.{◌≡◌, ◌==◌, find, slice_get};
+ghost use Rattle.std.specs.Prelude.{◌≡◌, slice_get};
 ghost use Rattle.job_types.specs.Zones.{zones_in_order};
 
-use axis_sets::ZONE_LIMIT;
+use axis_sets::{ZONE_LIMIT, ZoneId};
 use job_types::{Job, ZoneLine};
-
-/// The zone of this number.
-pub fn zone_numbered(job: &Job, number: u8) -> Option<ZoneLine>
-    ensures { result ≡ find (λ zone. zone.zone == number) job.now.zones }
-{
-    job.zones
-        .iter()
-        .copied()
-        .find(|zone| zone.zone.number == number)
-}
 
 /// The zone of this place, counted from 0, in ascending order of the zones of a job. It takes no memory.
 #[tactic(auto, unfolding(job_types::specs::Zones::zones_in_order))]
@@ -22,7 +12,7 @@ pub fn zone_at(job: &Job, place: usize) -> Option<ZoneLine>
 {
     let mut left = place;
     for index in 0..ZONE_LIMIT as u8 {
-        if let Some(zone) = zone_numbered(job, index + 1) {
+        if let Some(zone) = job.zone_line(ZoneId { number: index + 1 }) {
             if left == 0 {
                 return Some(zone);
             }

@@ -1,6 +1,6 @@
 use Rattle.std.proofs.Common.{◌≡◌, ◌∙◌, ℕ, ◌+◌, ◌≤◌, List, [], ◌∷◌, ◌++◌, length, filter, ap, sym, arith}
 use Rattle.std.specs.List.{range_with_len}
-use Rattle.job_report.specs.Channels.{has_channel}
+use Rattle.job_types.specs.Channels.{has_channel}
 use Rattle.job_report.proofs.RowLemmas.{filter-taken, filter-passed, length-filter-row}
 use Rattle.job_report.proofs.lines.channels_of.Goals as goal
 use Rattle.job_report.proofs.lines.channels_of.Goals.{then-has_channel, else-has_channel}

@@ -1,6 +1,6 @@
 use Rattle.std.proofs.Common.{◌≡◌, filter}
 use Rattle.std.specs.List.{range_with_len}
-use Rattle.job_report.specs.Channels.{has_channel}
+use Rattle.job_types.specs.Channels.{has_channel}
 use Rattle.job_report.proofs.lines.channels_of.Given as goal
 
 abbrev pub invariant-loop-index : goal.invariant-loop-index

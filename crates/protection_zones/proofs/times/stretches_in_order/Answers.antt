@@ -15,9 +15,9 @@ loop-index-preserved c = λ os is.
     let told : ZoneLine → List StretchView = stretches_of_zone c.args.job.now (all_items c.args.items.now) os in
     let numbered : ℕ → Option ZoneLine = λ number. find (λ zone. zone.zone == number) c.args.job.now.zones in
     let lists : List (Vec Stretch Global) → List (List StretchView) = map (λ s. s.items) in
-    elim c.match-zone_numbered.branch [
+    elim c.match-zone_line.branch [
       | in-Some+in_ok-stretches+in_ok-push w ↦
           rw (w.zones-is, w.in_ok-push.ensures.items, map-append (λ (s : Vec Stretch Global). s.items) c.loop-index.zones.items (w.in_ok-stretches.stretches ∷ []), w.in_ok-stretches.ensures os is)
-          (map-range_some told numbered 1 c.loop-index.index w.in-Some.zone (lists c.loop-index.zones.items) (c.loop-index.invariant os is) (sym c.zone_numbered.ensures ∙ w.in-Some.is))
-      | in_default w ↦ rw w.zones-is (map-range_none told numbered 1 c.loop-index.index (lists c.loop-index.zones.items) (c.loop-index.invariant os is) (sym c.zone_numbered.ensures ∙ w.in_default.is))
+          (map-range_some told numbered 1 c.loop-index.index w.in-Some.zone (lists c.loop-index.zones.items) (c.loop-index.invariant os is) (sym c.zone_line.ensures ∙ w.in-Some.is))
+      | in_default w ↦ rw w.zones-is (map-range_none told numbered 1 c.loop-index.index (lists c.loop-index.zones.items) (c.loop-index.invariant os is) (sym c.zone_line.ensures ∙ w.in_default.is))
     ]

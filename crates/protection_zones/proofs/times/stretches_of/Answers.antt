@@ -9,13 +9,13 @@ use Rattle.protection_zones.proofs.times.stretches_of.Goals as goal
 use Rattle.sync_types.specs.Boards.{first_board}
 
 pub log_of-requires-clause-whole : goal.log_of-requires-clause-whole
-log_of-requires-clause-whole c = (first_board c.requires.whole.0, rw (c.entries_of.ensures, c.ends_of.ensures) (whole_of c.requires.whole.0 c.args.run.now c.requires.whole.1))
+log_of-requires-clause-whole c = (first_board c.requires.whole.0, rw (c.entries.ensures, c.ends.ensures) (whole_of c.requires.whole.0 c.args.run.now c.requires.whole.1))
 
 pub returns : goal.returns
 unfolding all_stretches
 returns c = λ start comes.
-    let whole : IsWhole (first_board start) c.entries_of.result.now c.ends_of.result.now = rw (c.entries_of.ensures, c.ends_of.ensures) (whole_of start c.args.run.now comes) in
+    let whole : IsWhole (first_board start) c.entries.result.now c.ends.result.now = rw (c.entries.ensures, c.ends.ensures) (whole_of start c.args.run.now comes) in
     let os : List Occurrence = occurrences_of (first_board start) (moves_in c.args.run.now.entries) in
-    let log : IsLog c.args.job.now os c.in_ok-log.log = rw c.entries_of.ensures at (c.in_ok-log.ensures (first_board start) whole) in
+    let log : IsLog c.args.job.now os c.in_ok-log.log = rw c.entries.ensures at (c.in_ok-log.ensures (first_board start) whole) in
     ap (λ (zones : List (List StretchView)). let shown : StretchesView = record { zones = zones } in shown)
-    (c.told.ensures ∙ (c.in_ok-zones.ensures os log ∙ rw c.items_of.ensures refl))
+    (c.told.ensures ∙ (c.in_ok-zones.ensures os log ∙ rw c.items.ensures refl))

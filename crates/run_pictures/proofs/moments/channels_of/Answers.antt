@@ -1,4 +1,4 @@
-use Rattle.run_pictures.specs.Moments.{has_channel}
+use Rattle.job_types.specs.Channels.{has_channel}
 use Rattle.run_pictures.proofs.KeptLaws.{passing_on, passing_over}
 use Rattle.run_pictures.proofs.moments.channels_of.Goals as goal
 use Rattle.run_pictures.proofs.moments.channels_of.Goals.{then-has_channel+in_ok-push, else-has_channel}

@@ -1,6 +1,6 @@
 use Rattle.std.proofs.Common.{◌≡◌}
 use Rattle.std.specs.List.{filter, range_with_len}
-use Rattle.run_pictures.specs.Moments.{has_channel}
+use Rattle.job_types.specs.Channels.{has_channel}
 use Rattle.run_pictures.proofs.moments.channels_of.Given as goal
 
 abbrev pub invariant-loop-index : goal.invariant-loop-index

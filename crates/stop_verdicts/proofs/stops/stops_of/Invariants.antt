@@ -2,7 +2,8 @@
 use Rattle.std.proofs.Common.{◌≡◌, ◌≤◌, ◌+◌, ◌++◌, length}
 use Rattle.axis_sets.specs.declared.limits.TheConstants.{CHANNEL_PLACES}
 use Rattle.stop_verdicts.proofs.StopLaws.{Rest}
-use Rattle.stop_verdicts.specs.Stops.{has_channel, stops_of}
+use Rattle.job_types.specs.Channels.{has_channel}
+use Rattle.stop_verdicts.specs.Stops.{stops_of}
 use Rattle.stop_verdicts.proofs.stops.stops_of.Given as goal
 
 abbrev pub invariant-loop-number : goal.invariant-loop-number
