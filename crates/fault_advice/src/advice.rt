@@ -1,7 +1,7 @@
 //! What a refusal or an alarm is called, when it comes and what to do, by its code.
 ghost use Rattle.std.specs.Prelude.{◌≡◌, ◌==◌, map};
 ghost use Rattle.std.specs.List.{find};
-ghost use Rattle.input_lines.specs.Advice as model;
+ghost use Rattle.fault_advice.specs.Advice as model;
 
 use crate::tables::{ALARMS, REFUSALS, Row};
 

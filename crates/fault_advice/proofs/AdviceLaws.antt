@@ -3,7 +3,7 @@ use Rattle.std.proofs.Common.{◌≡◌, ◌∙◌, ℕ, ◌==◌, Bool, true, f
 use Rattle.std.specs.Prelude.{Option}
 use Rattle.std.specs.List.{find}
 use Rattle.std.specs.Option.{option_map}
-use Rattle.input_lines.specs.Advice.{Row, row_of}
+use Rattle.fault_advice.specs.Advice.{Row, row_of}
 
 pick : {T : Type 0} (plain : T → Row) (b : Bool) (x : T) (o : Option T) → cond b (Some (plain x)) (option_map plain o) ≡ option_map plain (cond b (Some x) o)
 pick plain true x o = refl

@@ -1,7 +1,7 @@
 use Rattle.std.proofs.Common.{◌∙◌, ◌==◌, None, Some, ap, refl, sym}
-use Rattle.input_lines.specs.Advice.{advice_of, advice_in}
-use Rattle.input_lines.proofs.AdviceLaws.{told}
-use Rattle.input_lines.proofs.advice.advice_of.Goals as goal
+use Rattle.fault_advice.specs.Advice.{advice_of, advice_in}
+use Rattle.fault_advice.proofs.AdviceLaws.{told}
+use Rattle.fault_advice.proofs.advice.advice_of.Goals as goal
 
 pub returns-in-Some : goal.returns-in-Some
 unfolding advice_of

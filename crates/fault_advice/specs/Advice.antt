@@ -1,7 +1,7 @@
 -- Meaning. What refusals and alarms are called, when they come and what to do: rows of a table, by their codes.
 use Rattle.std.specs.Prelude.{ℕ, ◌==◌, List, [], Option, None, Some, map}
 use Rattle.std.specs.List.{find}
-use Rattle.input_lines.specs.declared.tables.TheConstants.{REFUSALS, ALARMS}
+use Rattle.fault_advice.specs.declared.tables.TheConstants.{REFUSALS, ALARMS}
 
 -- a row: a code, what it is called, when it comes and what to do
 abbrev pub Row : Type 0

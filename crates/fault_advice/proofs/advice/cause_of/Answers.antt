@@ -1,7 +1,7 @@
 use Rattle.std.proofs.Common.{◌∙◌, ◌==◌, None, Some, ap, refl, sym}
-use Rattle.input_lines.specs.Advice.{cause_of, cause_in}
-use Rattle.input_lines.proofs.AdviceLaws.{told}
-use Rattle.input_lines.proofs.advice.cause_of.Goals as goal
+use Rattle.fault_advice.specs.Advice.{cause_of, cause_in}
+use Rattle.fault_advice.proofs.AdviceLaws.{told}
+use Rattle.fault_advice.proofs.advice.cause_of.Goals as goal
 
 pub returns-in-Some : goal.returns-in-Some
 unfolding cause_of
