@@ -10,7 +10,6 @@ mod drawings;
 mod ends;
 mod explaining;
 mod files;
-mod headlines;
 mod joins;
 mod judged;
 mod judging;

@@ -1,6 +1,6 @@
-use Rattle.explain.proofs.TextLaws.{five_more}
-use Rattle.explain.specs.Clashes.{head_text}
-use Rattle.explain.proofs.clash_text.say_head.Goals as goal
+use Rattle.told_texts.proofs.TextLaws.{five_more}
+use Rattle.told_texts.specs.BoxTexts.{head_text}
+use Rattle.told_texts.proofs.box_texts.say_head.Goals as goal
 
 pub returns : goal.returns
 unfolding head_text

@@ -1,6 +1,6 @@
 //! The first line of an explanation: the verdict.
 ghost use Rattle.std.specs.Prelude.{◌≡◌, ◌++◌};
-ghost use Rattle.explain.specs.Headlines as model;
+ghost use Rattle.told_texts.specs.Headlines as model;
 
 use axis_sets::ChannelId;
 use growing_text::Text;
@@ -65,9 +65,9 @@ fn say_stop(text: &mut Text, front: &str, channel: ChannelId, back: &str)
     text.say(back);
 }
 
-/// Says the verdict.
+/// Says this verdict in one line.
 #[tactic(auto, unfolding(crate::specs::Headlines::headline))]
-pub(crate) fn say_headline(text: &mut Text, verdict: &Verdict)
+pub fn say_headline(text: &mut Text, verdict: &Verdict)
     ensures { text.new ≡ text.old ++ model.headline verdict.now }
 {
     match verdict {
@@ -94,9 +94,10 @@ pub(crate) fn say_headline(text: &mut Text, verdict: &Verdict)
     }
 }
 
-/// Says the verdict YES. Where no boxes of any two zones were compared, it says so, and why.
+/// Says the verdict YES in one line, where this is told of each two zones. Where no boxes of any two `zones` were compared, it says so,
+/// and why.
 #[tactic(auto, unfolding(crate::specs::Headlines::yes_line))]
-pub(crate) fn say_yes_line(text: &mut Text, zones: &[ZonePair])
+pub fn say_yes_line(text: &mut Text, zones: &[ZonePair])
     ensures { text.new ≡ text.old ++ model.yes_line zones.now }
 {
     if is_none_compared(zones) {

@@ -2,9 +2,9 @@ use Rattle.std.proofs.Common.{ap, ◌++◌, ◌∙◌}
 use Rattle.std.proofs.lemmas.Int.{to_z-of_z}
 use Rattle.std.specs.Int.{w64}
 use Rattle.growing_text.specs.Lengths.{millimetres_text}
-use Rattle.explain.proofs.TextLaws.{five_more}
-use Rattle.explain.specs.Clashes.{smaller_text}
-use Rattle.explain.proofs.clash_text.say_smaller.Goals as goal
+use Rattle.told_texts.proofs.TextLaws.{five_more}
+use Rattle.told_texts.specs.BoxTexts.{smaller_text}
+use Rattle.told_texts.proofs.box_texts.say_smaller.Goals as goal
 
 pub returns : goal.returns
 unfolding smaller_text

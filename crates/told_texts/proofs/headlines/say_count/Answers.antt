@@ -1,8 +1,8 @@
 use Rattle.std.proofs.Common.{ap, ◌++◌, ◌∙◌}
 use Rattle.std.specs.Fmt.{decimal}
-use Rattle.explain.proofs.TextLaws.{five_more}
-use Rattle.explain.specs.Headlines.{count_text}
-use Rattle.explain.proofs.headlines.say_count.Goals as goal
+use Rattle.told_texts.proofs.TextLaws.{five_more}
+use Rattle.told_texts.specs.Headlines.{count_text}
+use Rattle.told_texts.proofs.headlines.say_count.Goals as goal
 
 pub returns : goal.returns
 unfolding count_text

@@ -1,8 +1,8 @@
 use Rattle.std.proofs.Common.{ap, ◌++◌, ◌∙◌}
 use Rattle.std.specs.Fmt.{decimal}
-use Rattle.explain.proofs.TextLaws.{three_more}
-use Rattle.explain.specs.Clashes.{one_channel_text}
-use Rattle.explain.proofs.clash_text.say_one_channel.Goals as goal
+use Rattle.told_texts.proofs.TextLaws.{three_more}
+use Rattle.told_texts.specs.BoxTexts.{one_channel_text}
+use Rattle.told_texts.proofs.box_texts.say_one_channel.Goals as goal
 
 pub returns : goal.returns
 unfolding one_channel_text

@@ -1,6 +1,6 @@
-use Rattle.explain.proofs.TextLaws.{five_more}
-use Rattle.explain.specs.Headlines.{pair_text}
-use Rattle.explain.proofs.headlines.say_pair.Goals as goal
+use Rattle.told_texts.proofs.TextLaws.{five_more}
+use Rattle.told_texts.specs.Headlines.{pair_text}
+use Rattle.told_texts.proofs.headlines.say_pair.Goals as goal
 
 pub returns : goal.returns
 unfolding pair_text

@@ -1,8 +1,8 @@
 use Rattle.std.proofs.Common.{ap, ◌++◌, ◌∙◌}
 use Rattle.std.specs.Fmt.{decimal}
-use Rattle.explain.proofs.TextLaws.{two_more}
-use Rattle.explain.specs.Headlines.{holder_text}
-use Rattle.explain.proofs.headlines.say_holder.Goals as goal
+use Rattle.told_texts.proofs.TextLaws.{two_more}
+use Rattle.told_texts.specs.Headlines.{holder_text}
+use Rattle.told_texts.proofs.headlines.say_holder.Goals as goal
 
 pub returns-in-Some : goal.returns-in-Some
 unfolding holder_text
