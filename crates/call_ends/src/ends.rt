@@ -4,7 +4,6 @@ use exit_statuses::Status;
 use growing_text::Text;
 use job_lines::INPUT_LIMIT;
 use joined_files::OtherPart;
-use ready_copies::Ready;
 use std::alloc::Global;
 use std::rt::Stderr;
 
@@ -16,20 +15,20 @@ JOB is a job, LIST a job list and FILE a file of a control; - is standard input;
 
 /// What a call reads from and writes to.
 #[derive(Drop)]
-pub(crate) struct Ends<'a, R> {
+pub struct Ends<'a, R> {
     /// Files, standard input, standard output and the clock.
-    pub(crate) rt: &'a R,
+    pub rt: &'a R,
     /// Standard error.
-    pub(crate) error: &'a Stderr,
+    pub error: &'a Stderr,
     /// Where memory comes from.
-    pub(crate) alloc: Global,
+    pub alloc: Global,
     /// Whether progress is told.
-    pub(crate) is_told: bool,
+    pub is_told: bool,
 }
 
 impl<R> Ends<'_, R> {
-    /// Writes bytes to standard error, as they are. A fault is not told: there is nowhere left to tell it.
-    pub(crate) fn say(&self, bytes: &[u8]) {
+    /// Writes these `bytes` to standard error, as they are. A fault is not told: there is nowhere left to tell it.
+    pub fn say(&self, bytes: &[u8]) {
         let _ = self.error.write_all(bytes);
     }
 
@@ -48,14 +47,14 @@ impl<R> Ends<'_, R> {
         text
     }
 
-    /// Says which forms the words of a call have.
-    pub(crate) fn say_usage(&self) -> Status {
+    /// Says which forms the words of a call have, and gives the status of words that are none of them.
+    pub fn say_usage(&self) -> Status {
         self.say(USAGE.as_bytes());
         Status::Usage
     }
 
-    /// Says that memory was too short.
-    pub(crate) fn say_no_memory(&self) -> Status {
+    /// Says that memory was too short, and gives the status of that.
+    pub fn say_no_memory(&self) -> Status {
         self.say(b"explain: out of memory\n");
         Status::NoMemory
     }
@@ -89,13 +88,13 @@ impl<R> Ends<'_, R> {
         self.say_text(text);
     }
 
-    /// Says how many refused lines are comments now, and how many stay.
-    pub(crate) fn say_ready(&self, ready: &Ready) {
+    /// Says of a copy of a job how many refused lines are comments now, `left_out`, and how many stay as they were, `refused`.
+    pub fn say_ready(&self, left_out: usize, refused: usize) {
         let mut text = Text::new(self.alloc);
         text.say("explain: refused lines that move nothing, now comments: ");
-        text.number(ready.left_out as u64);
+        text.number(left_out as u64);
         text.say("; refused lines that would move, branch or calculate, as they were: ");
-        text.number(ready.refused as u64);
+        text.number(refused as u64);
         text.say("\n");
         self.say_text(text);
     }

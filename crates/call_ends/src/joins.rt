@@ -69,8 +69,9 @@ impl<R: Files + Input> Ends<'_, R> {
         }
     }
 
-    /// The files of these names, joined to one input; the first is the job list.
-    pub(crate) fn joined(&self, names: &[&str]) -> Result<Vec<u8>, Status> {
+    /// The files of these `names`, joined to one input; the first is the job list. Where one is at fault, that is said, and the status
+    /// is given.
+    pub fn joined(&self, names: &[&str]) -> Result<Vec<u8>, Status> {
         let inputs = self.read_each(names)?;
         match self.join_inputs(names, inputs.as_slice()) {
             Ok(input) => Ok(input),
@@ -86,8 +87,9 @@ impl<R: Files + Input> Ends<'_, R> {
         }
     }
 
-    /// The input that files of these names are: the only one as it is, several joined. One that is too long is said to be so.
-    pub(crate) fn short_input(&self, names: &[&str]) -> Result<Vec<u8>, Status>
+    /// The input that files of these `names` are: the only one as it is, several joined. Where one is at fault, or the input is too
+    /// long, that is said, and the status is given.
+    pub fn short_input(&self, names: &[&str]) -> Result<Vec<u8>, Status>
         ensures { IfOk result (λ input. length input.items ≤ INPUT_LIMIT) }
     {
         let (input, name) = self.input(names)?;
