@@ -3,7 +3,7 @@ use Rattle.std.proofs.Common.{◌≡◌, ◌∙◌, ℕ, List, ◌++◌, refl, s
 use Rattle.std.specs.Prelude.{codes}
 use Rattle.std.specs.Fmt.{decimal}
 use Rattle.explain.specs.Explained.{IsExplained, IsHeaded, IsVerdictText, zones_told}
-use Rattle.explain.specs.Headlines.{BeginsWith, first_line, headline, stop_text}
+use Rattle.told_texts.specs.Headlines.{BeginsWith, first_line, headline, stop_text}
 use Rattle.job_types.specs.Job.{JobView}
 use Rattle.fault_codes.specs.declared.Alarm.{Alarm}
 use Rattle.order_clocks.specs.Clocked.{ClocksView}

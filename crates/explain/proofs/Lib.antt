@@ -3,7 +3,6 @@ pub mod DrawLaws
 pub mod FirstMet
 pub mod JudgeLemmas
 pub mod SaidLaws
-pub mod TextLaws
 pub mod LeftOutLaws
 pub mod RefusalLaws
 pub mod YesLaws

@@ -1,7 +1,7 @@
 -- What is said of YES names the zones by what is told of them.
 use Rattle.std.proofs.Common.{◌≡◌, ◌∙◌, ℕ, List, [], ◌++◌, ap, subst}
 use Rattle.explain.specs.Explained.{IsHeaded}
-use Rattle.explain.specs.Headlines.{yes_line}
+use Rattle.told_texts.specs.Headlines.{yes_line}
 use Rattle.explain.specs.Room.{IsYesText}
 use Rattle.job_types.specs.Job.{JobView}
 use Rattle.zone_stretches.specs.Overlaps.{Pair}

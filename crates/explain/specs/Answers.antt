@@ -3,7 +3,7 @@ use Rattle.std.specs.Prelude.{◌≡◌, ℕ, List, ◌++◌, map, slice_get, Re
 use Rattle.exit_statuses.specs.Statuses.{status_of}
 use Rattle.exit_statuses.specs.declared.Status.{Status}
 use Rattle.exit_statuses.specs.declared.Status.TheVariants.{Refused}
-use Rattle.explain.specs.Headlines.{BeginsWith, first_line}
+use Rattle.told_texts.specs.Headlines.{BeginsWith, first_line}
 use Rattle.channel_machine.specs.StartStates.{start_of}
 use Rattle.explain.specs.Drawn.{IsDrawn}
 use Rattle.explain.specs.Explained.{IsExplained, zones_told}

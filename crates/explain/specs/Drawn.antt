@@ -2,7 +2,7 @@
 use Rattle.std.specs.Prelude.{◌≡◌, ◌++◌, ◌||◌, ℕ, List, length, nat_lt, take, Option}
 use Rattle.explain.specs.Explained.{zones_told}
 use Rattle.explain.specs.Focused.{IsFocus}
-use Rattle.explain.specs.Headlines.{first_line}
+use Rattle.told_texts.specs.Headlines.{first_line}
 use Rattle.job_types.specs.Job.{JobView}
 use Rattle.order_clocks.specs.Clocked.{ClocksView}
 use Rattle.order_clocks.specs.Tells.{is_before_in}

@@ -7,7 +7,7 @@ use Rattle.alarm_states.specs.Texts.{state_text}
 use Rattle.alarm_states.specs.declared.state.AlarmState.{AlarmState}
 use Rattle.clash_check.specs.PairNumbers.{numbers_of}
 use Rattle.explain.specs.Clashes.{IsMetText}
-use Rattle.explain.specs.Headlines.{headline, yes_line}
+use Rattle.told_texts.specs.Headlines.{headline, yes_line}
 use Rattle.explain.specs.Numbers.{IsUndecidedText}
 use Rattle.explain.specs.Room.{IsYesText}
 use Rattle.job_types.specs.Job.{JobView}

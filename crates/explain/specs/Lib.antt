@@ -3,7 +3,6 @@ pub mod Clashes
 pub mod Drawn
 pub mod Explained
 pub mod Focused
-pub mod Headlines
 pub mod Judgements
 pub mod LineTexts
 pub mod Numbers

@@ -1,9 +1,9 @@
 //! Calls: words, what they ask for, and where answers go.
 use crate::answers::{Answer, answer_input};
-use crate::ends::Ends;
 use crate::progress::Progress;
 use crate::refusal_lines::refusal_lines;
 use crate::words::{Form, Request, Task, request_of};
+use call_ends::Ends;
 use clap::Error;
 use clap::error::ErrorKind;
 use exit_statuses::Status;
@@ -82,7 +82,7 @@ fn copy_ready<R: Files + Input + Print>(ends: &Ends<R>, names: &[&str]) -> u8 {
     };
     match ready_text(ends.alloc, input.as_slice()) {
         Ok(ready) => {
-            ends.say_ready(&ready);
+            ends.say_ready(ready.left_out, ready.refused);
             write_text(ends, ready.text.as_slice(), DONE)
         }
         Err(_) => ends.say_no_memory().number(),

@@ -9,153 +9,23 @@ ghost use Rattle.zone_stretches.specs.ZoneBoxes.{IsFit};
 
 use crate::judged::Judged;
 use crate::line_texts::{LineTexts, say_known, texts_of};
-use axis_sets::ChannelId;
 use box_clashes::{Clash, clash_of};
 use growing_text::Text;
 use job_types::Job;
 use met_boxes::{Group, groups_of};
-use micro_units::Um;
 use out_of_memory::NoMemory;
 use std::alloc::Global;
-use swept_boxes::Box3;
-use sync_types::StretchKind;
-use told_places::{Meeting, Place, Told, say_box, say_direction, say_place, say_span, say_zone};
-
-/// Says in which blocks two zones can meet, and where: in three to five lines.
-#[tactic(auto, unfolding(crate::specs::Clashes::head_text))]
-fn say_head(text: &mut Text, told: &Told, met: &Meeting, common: &Box3)
-    ensures { text.new ≡ text.old ++ model.head_text told.now.lines.now told.now.job.now
-        told.now.run.now met.now common.now }
-{
-    say_place(text, told, &met.left);
-    say_place(text, told, &met.right);
-    text.say("Both can be in ");
-    say_box(text, common);
-    text.say(".\n");
-}
-
-/// Says the box of a zone.
-#[tactic(auto, unfolding(crate::specs::Clashes::own_text))]
-fn say_own(text: &mut Text, place: &Place)
-    ensures { text.new ≡ text.old ++ model.own_text place.now }
-{
-    text.say("  Zone ");
-    text.number(u64::from(place.name.zone.number));
-    text.say(": ");
-    say_box(text, &place.cover);
-    text.say("\n");
-}
-
-/// Says the boxes of two zones.
-#[tactic(auto, unfolding(crate::specs::Clashes::boxes_text))]
-fn say_boxes(text: &mut Text, met: &Meeting)
-    ensures { text.new ≡ text.old ++ model.boxes_text met.now }
-{
-    text.say("\nThe boxes that they sweep\n");
-    say_own(text, &met.left);
-    say_own(text, &met.right);
-}
-
-/// Says from when to when two zones are there.
-#[tactic(auto, unfolding(crate::specs::Clashes::times_text))]
-fn say_times(text: &mut Text, told: &Told, met: &Meeting)
-    ensures { text.new ≡ text.old ++ model.times_text told.now.lines.now told.now.job.now told.now.run.now met.now }
-{
-    text.say("When\n");
-    say_span(text, told, &met.left);
-    say_span(text, told, &met.right);
-}
-
-/// Says how much more room two boxes need.
-#[tactic(auto, unfolding(crate::specs::Clashes::shift_text))]
-fn say_shift(text: &mut Text, clash: &Clash)
-    ensures { text.new ≡ text.old ++ model.shift_text clash.now }
-{
-    text.say("What would keep them apart\n  ");
-    text.millimetres(clash.way.shift.saturating_add(1));
-    text.say(" mm more between them in ");
-    say_direction(text, clash.way.direction);
-    text.say("\n");
-}
-
-/// Says that this smaller margin parts two boxes.
-#[tactic(auto, unfolding(crate::specs::Clashes::smaller_text))]
-fn say_smaller(text: &mut Text, margin: i64, less: i64)
-    ensures { text.new ≡ text.old ++ model.smaller_text margin less }
-{
-    text.say("  MARGIN ");
-    text.millimetres(less);
-    text.say(" or less; it is ");
-    text.millimetres(margin);
-    text.say("\n");
-}
-
-/// Says which smaller margin parts two boxes, if one does.
-#[tactic(auto, unfolding(crate::specs::Clashes::less_text))]
-fn say_less(text: &mut Text, margin: i64, less: Option<i64>)
-    ensures { text.new ≡ text.old ++ model.less_text margin less }
-{
-    match less {
-        Some(less) => say_smaller(text, margin, less),
-        None => text.say("  no smaller MARGIN: they meet with MARGIN 0 too\n"),
-    }
-}
-
-/// Says which margin parts two boxes; nothing where the job has none.
-#[tactic(auto, unfolding(crate::specs::Clashes::margin_text))]
-fn say_margin(text: &mut Text, margin: Um, less: Option<i64>)
-    ensures { text.new ≡ text.old ++ model.margin_text margin less }
-{
-    if margin.micrometres != 0 {
-        say_less(text, i64::from(margin.micrometres), less);
-    }
-}
-
-/// Says which depth parts two boxes.
-#[tactic(auto, unfolding(crate::specs::Clashes::depth_text))]
-fn say_depth(text: &mut Text, depth: u8, more: Option<u8>)
-    ensures { text.new ≡ text.old ++ model.depth_text depth more }
-{
-    match more {
-        Some(more) => {
-            text.say("  DEPTH ");
-            text.number(u64::from(more));
-            text.say("; it is ");
-            text.number(u64::from(depth));
-            text.say("\n");
-        }
-        None => text.say("  no greater DEPTH\n"),
-    }
-}
-
-/// Says that both zones are of this channel.
-#[tactic(auto, unfolding(crate::specs::Clashes::one_channel_text))]
-fn say_one_channel(text: &mut Text, channel: ChannelId)
-    ensures { text.new ≡ text.old ++ model.one_channel_text channel }
-{
-    text.say("  one group for both, if they may touch: both are of channel ");
-    text.number(u64::from(channel.number));
-    text.say("\n");
-}
-
-/// Says that one channel holds both zones, where that is so.
-#[tactic(auto, unfolding(crate::specs::Clashes::holders_text))]
-fn say_holders(text: &mut Text, one: Option<ChannelId>, other: Option<ChannelId>)
-    ensures { text.new ≡ text.old ++ model.holders_text one other }
-{
-    if let (Some(one), Some(other)) = (one, other) {
-        if one == other {
-            say_one_channel(text, one);
-        }
-    }
-}
+use told_places::{Meeting, Place, Told, say_zone};
+use told_texts::{
+    say_boxes, say_depth, say_head, say_holders, say_margin, say_shift, say_stays, say_times,
+};
 
 /// Says by what two boxes would be apart.
 #[tactic(auto, unfolding(crate::specs::Clashes::ways_text))]
 fn say_ways(text: &mut Text, job: &Job, met: &Meeting, clash: &Clash)
     ensures { text.new ≡ text.old ++ model.ways_text job.now met.now clash.now }
 {
-    say_shift(text, clash);
+    say_shift(text, &clash.way);
     say_margin(text, job.margin, clash.margin);
     say_depth(text, job.depth, clash.depth);
     say_holders(text, met.left.name.channel, met.right.name.channel);
@@ -171,17 +41,6 @@ fn say_first(text: &mut Text, told: &Told, first: &Meeting, clash: &Clash)
     say_boxes(text, first);
     say_times(text, told, first);
     say_ways(text, told.job, first, clash);
-}
-
-/// Says that a zone only stands where its channel has left it, where that has ended.
-#[tactic(auto, unfolding(crate::specs::Clashes::stays_text))]
-fn say_stays(text: &mut Text, kind: StretchKind)
-    ensures { text.new ≡ text.old ++ model.stays_text kind }
-{
-    match kind {
-        StretchKind::End => text.say(" (stands there until the end)"),
-        StretchKind::Idle | StretchKind::Run | StretchKind::Hold | StretchKind::Free => {}
-    }
 }
 
 /// Says a box in short.

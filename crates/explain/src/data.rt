@@ -7,7 +7,6 @@ ghost use Rattle.sync_types.specs.Runs.{ComesFrom};
 
 use crate::data_waits::waits_data;
 use crate::judged::Judged;
-use crate::other_texts::{apart_of, margin_left};
 use alarm_states::{AlarmState, Call, alarm_state};
 use axis_sets::{CHANNEL_PLACES, ChannelId};
 use box_clashes::clash_of;
@@ -25,6 +24,7 @@ use told_data::{
     stuck_data, undecided_data, verdict_line,
 };
 use told_places::{Meeting, Told};
+use told_texts::{apart_of, margin_left};
 use zone_pairs::pairs_data;
 
 /// What is taken for granted of a channel.

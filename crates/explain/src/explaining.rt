@@ -4,7 +4,7 @@ ghost use Rattle.channel_machine.specs.StartStates.{start_of};
 ghost use Rattle.clash_check.specs.PairNumbers.{numbers_of};
 ghost use Rattle.explain.specs.Clashes.{IsMetText};
 ghost use Rattle.explain.specs.Explained as model;
-ghost use Rattle.explain.specs.Headlines.{headline, yes_line};
+ghost use Rattle.told_texts.specs.Headlines.{headline, yes_line};
 ghost use Rattle.explain.specs.Numbers.{IsUndecidedText};
 ghost use Rattle.explain.specs.Room.{IsYesText};
 ghost use Rattle.job_types.specs.SoundJob.{BlocksFit, IsSoundJob};
@@ -21,7 +21,6 @@ ghost use Rattle.sync_types.specs.Runs.{ComesFrom};
 ghost use Rattle.sync_types.specs.Turns.{AreEntries};
 
 use crate::clash_text::no_told;
-use crate::headlines::{say_headline, say_yes_line};
 use crate::judged::Judged;
 use crate::other_texts::{undecided_told, yes_told};
 use alarm_states::{AlarmState, alarm_state, say_state};
@@ -34,6 +33,7 @@ use std::alloc::Global;
 use stop_reasons::{say_alarm, say_race, say_stuck};
 use sync_types::{Race, Verdict};
 use told_places::Told;
+use told_texts::{say_headline, say_yes_line};
 
 /// The explanation of RACE.
 fn race_explained(alloc: Global, judged: &Judged, race: &Race) -> Text

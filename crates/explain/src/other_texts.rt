@@ -18,45 +18,8 @@ use met_boxes::{Near, nearest_of};
 use out_of_memory::NoMemory;
 use std::alloc::Global;
 use told_places::{Told, say_place};
+use told_texts::{apart_of, margin_left, say_room, say_two_groups};
 use zone_pairs::{ZonePair, say_zone_pairs};
-
-/// By how much two boxes are apart that reach so far into each other.
-pub(crate) fn apart_of(reach: i64) -> i64
-    ensures { result ≡ room.apart_of reach }
-{
-    (0i64).saturating_sub(reach)
-}
-
-/// By how much the margin could be greater where boxes are so far apart: both grow at the ends that face each other.
-#[tactic(auto, unfolding(crate::specs::Room::margin_left))]
-pub(crate) fn margin_left(apart: i64) -> i64
-    ensures { result ≡ room.margin_left apart }
-{
-    if apart <= 0 { 0 } else { (apart - 1) / 2 }
-}
-
-/// Says two groups.
-#[tactic(auto, unfolding(crate::specs::Room::groups_text))]
-fn say_two_groups(text: &mut Text, groups: (u8, u8))
-    ensures { text.new ≡ text.old ++ room.groups_text groups }
-{
-    text.say("Groups ");
-    text.number(u64::from(groups.0));
-    text.say(" and ");
-    text.number(u64::from(groups.1));
-}
-
-/// Says how near they come, and by how much the margin could be greater.
-#[tactic(auto, unfolding(crate::specs::Room::room_text))]
-fn say_room(text: &mut Text, apart: i64, left: i64)
-    ensures { text.new ≡ text.old ++ room.room_text apart left }
-{
-    text.say(" come as near as ");
-    text.millimetres(apart);
-    text.say(" mm: MARGIN could be ");
-    text.millimetres(left);
-    text.say(" greater.\n");
-}
 
 /// Says how near two groups come to each other, and where.
 #[tactic(auto, unfolding(crate::specs::Room::near_text))]

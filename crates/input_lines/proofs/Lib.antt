@@ -1,4 +1,3 @@
-mod AdviceLaws
 mod LineLaws
 mod TrimLaws
 mod NumberLaws

@@ -1,4 +1,3 @@
-pub mod Advice
 pub mod Headers
 pub mod Lines
 pub mod Numbers

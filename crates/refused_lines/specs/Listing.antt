@@ -2,7 +2,7 @@
 use Rattle.std.specs.Prelude.{ℕ, Bool, true, false, not, ◌==◌, List, [], ◌++◌, if◌then◌else◌, Option, None, Some, length, count_by, codes}
 use Rattle.std.specs.Fmt.{decimal}
 use Rattle.std.specs.List.{flat_map, list_any}
-use Rattle.input_lines.specs.Advice.{refusals, name_of}
+use Rattle.fault_advice.specs.Advice.{refusals, name_of}
 use Rattle.input_lines.specs.Origins.{origin_at, origin_text}
 use Rattle.fault_codes.specs.declared.Refusal.{Refusal}
 use Rattle.refused_lines.specs.Refusals.{line_body, refusal_text}

@@ -1,7 +1,7 @@
 -- Meaning. How a refused input is told.
 use Rattle.std.specs.Prelude.{ℕ, List, [], ◌++◌, Option, None, Some, replicate, codes}
 use Rattle.std.specs.Fmt.{decimal}
-use Rattle.input_lines.specs.Advice.{refusals, name_of, cause_of, advice_of}
+use Rattle.fault_advice.specs.Advice.{refusals, name_of, cause_of, advice_of}
 use Rattle.input_lines.specs.Lines.{line_text}
 use Rattle.input_lines.specs.Origins.{origin_text}
 use Rattle.fault_codes.specs.declared.Refusal.{Refusal}

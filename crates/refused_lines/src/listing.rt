@@ -8,9 +8,10 @@ use crate::refusal_text::{explain_refusal, say_line};
 use crate::rows::RefusedLine;
 use crate::slip_words::slip_advice;
 use crate::slips::Slip;
+use fault_advice::refusal_name;
 use fault_codes::Refusal;
 use growing_text::Text;
-use input_lines::{Lines, origin_of, refusal_name, say_origin};
+use input_lines::{Lines, origin_of, say_origin};
 use out_of_memory::NoMemory;
 use std::alloc::Global;
 

@@ -5,9 +5,10 @@ ghost use Rattle.refused_lines.specs.Refusals as model;
 use crate::rows::{RefusedLine, refused_line};
 use crate::slip_words::slip_advice;
 use crate::slips::Slip;
+use fault_advice::{refusal_advice, refusal_cause, refusal_name};
 use fault_codes::Refusal;
 use growing_text::Text;
-use input_lines::{Lines, refusal_advice, refusal_cause, refusal_name, say_origin};
+use input_lines::{Lines, say_origin};
 use out_of_memory::NoMemory;
 use std::alloc::Global;
 

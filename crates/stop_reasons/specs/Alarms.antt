@@ -2,7 +2,7 @@
 use Rattle.std.specs.Prelude.{ℕ, List, [], ◌++◌, Option, Some, codes, ◌==◌, if◌then◌else◌, length}
 use Rattle.std.specs.Fmt.{decimal}
 use Rattle.std.specs.List.{flat_map}
-use Rattle.input_lines.specs.Advice.{advice_of, alarms, cause_of, name_of}
+use Rattle.fault_advice.specs.Advice.{advice_of, alarms, cause_of, name_of}
 use Rattle.job_types.specs.Job.{JobView}
 use Rattle.fault_codes.specs.declared.Alarm.{Alarm}
 use Rattle.stop_reasons.specs.Ends.{end_of}

@@ -11,9 +11,9 @@ use crate::numbers::all_channels;
 use crate::remedies::say_advice;
 use crate::stuck_text::say_waits;
 use axis_sets::ChannelId;
+use fault_advice::{alarm_advice, alarm_cause, alarm_name};
 use fault_codes::Alarm;
 use growing_text::Text;
-use input_lines::{alarm_advice, alarm_cause, alarm_name};
 use sync_types::{ChannelEnd, StartState};
 use told_places::{Told, say_block, say_channel, say_channel_first};
 

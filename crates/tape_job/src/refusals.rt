@@ -112,7 +112,7 @@ fn numbered(alloc: Global, codes: &[Option<u16>]) -> Result<Vec<Refusal>, NoMemo
 }
 
 /// The refusals of the lines of an input that are refused by themselves, in the order of the input, each with its code as
-/// `line_codes` gives it. Rules that hang on what other lines declare, open or name have no part in them. `NoMemory` where too
+/// `line_codes` gives it. Rules that depend on what other lines declare, open or name have no part in them. `NoMemory` where too
 /// little memory is found.
 pub fn line_refusals(alloc: Global, bytes: &[u8]) -> Result<Vec<Refusal>, NoMemory>
     requires { length bytes.now ≤ INPUT_LIMIT + 1 }

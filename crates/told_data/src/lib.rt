@@ -11,6 +11,7 @@ mod places;
 mod refusals;
 mod stops;
 mod verdicts;
+mod waits;
 
 pub use assumptions::GrantedData;
 pub use blocks::{block_data, box_data};
@@ -21,3 +22,6 @@ pub use places::place_data;
 pub use refusals::refusal_data;
 pub use stops::{WaitsData, alarm_data, readings_data, state_data, stop_data, stuck_data};
 pub use verdicts::{NoData, YesData, number_data, race_data, undecided_data};
+pub use waits::{
+    MarkFacts, WaitFacts, axis_lack, end_lack, mark_data, mark_lack, own_end_lack, wait_data,
+};

@@ -2,8 +2,9 @@
 use crate::blocks::{origin_data, text_of};
 use crate::lines::line_of;
 use exit_statuses::Status;
+use fault_advice::{refusal_advice, refusal_cause, refusal_name};
 use fault_codes::Refusal;
-use input_lines::{Lines, origin_of, refusal_advice, refusal_cause, refusal_name};
+use input_lines::{Lines, origin_of};
 use out_of_memory::NoMemory;
 use refused_lines::{Effect, RefusedLine, Slip, refused_line, slip_advice};
 use serde::Serialize;

@@ -3,7 +3,7 @@ use crate::blocks::{block_data, channel_number};
 use axis_sets::ChannelId;
 use block_readings::Reading;
 use exit_statuses::Status;
-use input_lines::{alarm_advice, alarm_cause, alarm_name};
+use fault_advice::{alarm_advice, alarm_cause, alarm_name};
 use serde_json::{Value, json};
 use std::alloc::{AllocError, Global};
 use sync_types::ChannelEnd;

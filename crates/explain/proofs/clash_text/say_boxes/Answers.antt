@@ -1,7 +1,0 @@
-use Rattle.explain.proofs.TextLaws.{three_more}
-use Rattle.explain.specs.Clashes.{boxes_text}
-use Rattle.explain.proofs.clash_text.say_boxes.Goals as goal
-
-pub returns : goal.returns
-unfolding boxes_text
-returns c = three_more _ _ _ _ _ _ _ c.say.ensures c.say_own.ensures c.say_own-2.ensures

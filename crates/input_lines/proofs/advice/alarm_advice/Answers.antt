@@ -1,6 +1,0 @@
-use Rattle.input_lines.specs.Advice.{alarms}
-use Rattle.input_lines.proofs.advice.alarm_advice.Goals as goal
-
-pub returns : goal.returns
-unfolding alarms
-returns c = c.advice_of.ensures

@@ -1,0 +1,3 @@
+pub mod BoxTexts
+pub mod Headlines
+pub mod Room
