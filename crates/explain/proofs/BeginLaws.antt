@@ -3,21 +3,21 @@ use Rattle.std.proofs.Common.{◌≡◌, ◌∙◌, ℕ, List, ◌++◌, refl, s
 use Rattle.std.specs.Prelude.{codes}
 use Rattle.std.specs.Fmt.{decimal}
 use Rattle.explain.specs.Explained.{IsExplained, IsHeaded, IsVerdictText, zones_told}
-use Rattle.told_texts.specs.Headlines.{BeginsWith, first_line, headline, stop_text}
+use Rattle.explain_texts.specs.Headlines.{BeginsWith, first_line, headline, stop_text}
 use Rattle.job_types.specs.Job.{JobView}
 use Rattle.fault_codes.specs.declared.Alarm.{Alarm}
 use Rattle.order_clocks.specs.Clocked.{ClocksView}
 use Rattle.zone_stretches.specs.Stretches.{StretchesView}
-use Rattle.stop_reasons.specs.Alarms.{alarm_text}
-use Rattle.stop_reasons.specs.RaceTexts.{race_text}
-use Rattle.stop_reasons.specs.Stuck.{last_board, stuck_text}
+use Rattle.explain_stops.specs.Alarms.{alarm_text}
+use Rattle.explain_stops.specs.RaceTexts.{race_text}
+use Rattle.explain_stops.specs.Stuck.{last_board, stuck_text}
 use Rattle.sync_types.specs.Boards.{Board}
 use Rattle.sync_types.specs.Views.{RunView, StartView}
 use Rattle.sync_types.specs.declared.runs.Race.{Race}
 use Rattle.sync_types.specs.declared.verdicts.Verdict.{Verdict}
 use Rattle.sync_types.specs.declared.verdicts.Verdict.TheVariants as verdicts
-use Rattle.told_places.specs.Lines.{channel_text}
-use Rattle.told_places.specs.declared.place.Meeting.{Meeting}
+use Rattle.explain_places.specs.Lines.{channel_text}
+use Rattle.explain_places.specs.declared.place.Meeting.{Meeting}
 
 pub begins_after : (front text more : List ℕ) → BeginsWith front text → BeginsWith front (text ++ more)
 begins_after front text more begins = record {

@@ -2,15 +2,15 @@
 use Rattle.std.proofs.Common.{◌≡◌, ◌∙◌, ℕ, List, length, ◌++◌, ap, take}
 use Rattle.std.specs.Prelude.{◌||◌, nat_lt, Option}
 use Rattle.explain.specs.Drawn.{IsPictureOf}
-use Rattle.picture_views.specs.declared.shapes.Picture.{Picture}
-use Rattle.run_pictures.specs.Boxes.{all_tiles}
-use Rattle.run_pictures.specs.Focus.{SceneView}
-use Rattle.run_pictures.specs.Moments.{channels_of, moments_from}
-use Rattle.run_pictures.specs.Named.{named_tiles}
-use Rattle.run_pictures.specs.Spans.{named_spans}
-use Rattle.run_pictures.specs.Tracks.{all_tracks}
-use Rattle.run_pictures.specs.declared.picture.TheConstants.{MOMENT_LIMIT, TILE_LIMIT}
-use Rattle.told_places.specs.declared.place.Meeting.{Meeting}
+use Rattle.explain_views.specs.declared.shapes.Picture.{Picture}
+use Rattle.explain_pictures.specs.Boxes.{all_tiles}
+use Rattle.explain_pictures.specs.Focus.{SceneView}
+use Rattle.explain_pictures.specs.Moments.{channels_of, moments_from}
+use Rattle.explain_pictures.specs.Named.{named_tiles}
+use Rattle.explain_pictures.specs.Spans.{named_spans}
+use Rattle.explain_pictures.specs.Tracks.{all_tracks}
+use Rattle.explain_pictures.specs.declared.picture.TheConstants.{MOMENT_LIMIT, TILE_LIMIT}
+use Rattle.explain_places.specs.declared.place.Meeting.{Meeting}
 
 -- the same first meeting, said in another way
 pub picture_of_first : (scene : SceneView) (one first : Option Meeting) (picture : Picture)

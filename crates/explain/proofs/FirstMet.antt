@@ -7,7 +7,7 @@ use Rattle.clash_check.specs.Counts.{count_of}
 use Rattle.clash_check.specs.Verdicts.{alarm_by, budget_verdict, meeting_verdict, name_of, no_by, or_else, race_verdict, stops_of, stuck_by, verdict_by}
 use Rattle.explain.specs.Judgements.{AreMet, IsFirstMet}
 use Rattle.job_types.specs.Job.{JobView}
-use Rattle.met_boxes.specs.Meetings.{meetings_of, told_box, told_pair}
+use Rattle.explain_meetings.specs.Meetings.{meetings_of, told_box, told_pair}
 use Rattle.out_of_memory.specs.declared.NoMemory.{NoMemory}
 use Rattle.zone_stretches.specs.Overlaps.{Order, Pair, compared_pairs}
 use Rattle.zone_stretches.specs.Pieces.{pair_meets}
@@ -20,7 +20,7 @@ use Rattle.sync_types.specs.declared.runs.Race.{Race}
 use Rattle.sync_types.specs.declared.verdicts.PlaceName.{PlaceName}
 use Rattle.sync_types.specs.declared.verdicts.Verdict.{Verdict}
 use Rattle.sync_types.specs.declared.verdicts.Verdict.TheVariants as verdicts
-use Rattle.told_places.specs.declared.place.Meeting.{Meeting}
+use Rattle.explain_places.specs.declared.place.Meeting.{Meeting}
 
 -- ---- which part of the verdict is NO
 

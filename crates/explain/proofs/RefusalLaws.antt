@@ -2,9 +2,9 @@
 use Rattle.std.proofs.Common.{◌≡◌, ◌∙◌, ℕ, List, map, ap}
 use Rattle.explain.specs.Answers.{refused_text}
 use Rattle.fault_codes.specs.declared.Refusal.{Refusal}
-use Rattle.refused_lines.specs.Listing.{refusals_text}
-use Rattle.refused_lines.specs.Rows.{refused_line}
-use Rattle.refused_lines.specs.declared.rows.RefusedLine.{RefusedLine}
+use Rattle.explain_refused.specs.Listing.{refusals_text}
+use Rattle.explain_refused.specs.Rows.{refused_line}
+use Rattle.explain_refused.specs.declared.rows.RefusedLine.{RefusedLine}
 use Rattle.tape_job.specs.LineRefusals.{line_refusals_of}
 
 told_of : (lines input : List ℕ) (refusal : Refusal) → lines ≡ input → refusals_text lines refusal (map (refused_line lines) (line_refusals_of input)) ≡ refused_text input refusal

@@ -1,12 +1,12 @@
 -- What is said of YES names the zones by what is told of them.
 use Rattle.std.proofs.Common.{◌≡◌, ◌∙◌, ℕ, List, [], ◌++◌, ap, subst}
 use Rattle.explain.specs.Explained.{IsHeaded}
-use Rattle.told_texts.specs.Headlines.{yes_line}
+use Rattle.explain_texts.specs.Headlines.{yes_line}
 use Rattle.explain.specs.Room.{IsYesText}
 use Rattle.job_types.specs.Job.{JobView}
 use Rattle.zone_stretches.specs.Overlaps.{Pair}
 use Rattle.sync_types.specs.Views.{RunView}
-use Rattle.zone_pairs.specs.declared.pairs.ZonePair.{ZonePair}
+use Rattle.explain_pairs.specs.declared.pairs.ZonePair.{ZonePair}
 
 pub yes_headed : (input : List ℕ) (job : JobView) (run : RunView) (pairs : List Pair) (one other told : List ZonePair) (empty front text : List ℕ)
     → empty ≡ [] → front ≡ empty ++ yes_line one → one ≡ told → other ≡ told → IsHeaded front (IsYesText input job run other pairs) text

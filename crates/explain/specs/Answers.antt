@@ -3,7 +3,7 @@ use Rattle.std.specs.Prelude.{◌≡◌, ℕ, List, ◌++◌, map, slice_get, Re
 use Rattle.exit_statuses.specs.Statuses.{status_of}
 use Rattle.exit_statuses.specs.declared.Status.{Status}
 use Rattle.exit_statuses.specs.declared.Status.TheVariants.{Refused}
-use Rattle.told_texts.specs.Headlines.{BeginsWith, first_line}
+use Rattle.explain_texts.specs.Headlines.{BeginsWith, first_line}
 use Rattle.channel_machine.specs.StartStates.{start_of}
 use Rattle.explain.specs.Drawn.{IsDrawn}
 use Rattle.explain.specs.Explained.{IsExplained, zones_told}
@@ -15,14 +15,14 @@ use Rattle.fault_codes.specs.declared.Refusal.{Refusal}
 use Rattle.order_clocks.specs.Clocked.{ClocksView}
 use Rattle.order_clocks.specs.Tells.{is_before_in}
 use Rattle.zone_stretches.specs.Stretches.{StretchesView}
-use Rattle.ready_copies.specs.Copies.{left_out_text}
-use Rattle.refused_lines.specs.Listing.{refusals_text}
-use Rattle.refused_lines.specs.Rows.{refused_line}
+use Rattle.explain_ready.specs.Copies.{left_out_text}
+use Rattle.explain_refused.specs.Listing.{refusals_text}
+use Rattle.explain_refused.specs.Rows.{refused_line}
 use Rattle.sync_types.specs.Views.{RunView}
 use Rattle.sync_types.specs.declared.verdicts.Verdict.{Verdict}
 use Rattle.tape_job.specs.LineRefusals.{line_refusals_of}
 use Rattle.tape_job.specs.Read.{read_of}
-use Rattle.told_places.specs.declared.place.Meeting.{Meeting}
+use Rattle.explain_places.specs.declared.place.Meeting.{Meeting}
 
 -- the answer on an accepted job: the verdict is that on its run in order, the status is its own, a text begins with it and explains it, and a drawing is that of the run
 pub record IsJobAnswer (form : Form) (input : List ℕ) (job : JobView) (text : List ℕ) (status : Status) : Type 0 where

@@ -3,16 +3,16 @@ use Rattle.std.specs.Prelude.{◌≡◌, ℕ, ◌==◌, if◌then◌else◌, Lis
 use Rattle.std.specs.Fmt.{decimal}
 use Rattle.std.specs.List.{flat_map}
 use Rattle.job_types.specs.Job.{JobView}
-use Rattle.box_clashes.specs.Clashes.{IsClash}
-use Rattle.met_boxes.specs.Groups.{AreGroups}
-use Rattle.box_clashes.specs.declared.clashes.Clash.{Clash}
-use Rattle.met_boxes.specs.declared.groups.Group.{Group}
+use Rattle.explain_clashes.specs.Clashes.{IsClash}
+use Rattle.explain_meetings.specs.Groups.{AreGroups}
+use Rattle.explain_clashes.specs.declared.clashes.Clash.{Clash}
+use Rattle.explain_meetings.specs.declared.groups.Group.{Group}
 use Rattle.sync_types.specs.Views.{RunView}
-use Rattle.told_places.specs.Lines.{line_place_text}
-use Rattle.told_places.specs.Places.{zone_text}
-use Rattle.told_places.specs.declared.place.Meeting.{Meeting}
-use Rattle.told_places.specs.declared.place.Place.{Place}
-use Rattle.told_texts.specs.BoxTexts.{boxes_text, depth_text, head_text, holders_text, margin_text, shift_text, stays_text, times_text}
+use Rattle.explain_places.specs.Lines.{line_place_text}
+use Rattle.explain_places.specs.Places.{zone_text}
+use Rattle.explain_places.specs.declared.place.Meeting.{Meeting}
+use Rattle.explain_places.specs.declared.place.Place.{Place}
+use Rattle.explain_texts.specs.BoxTexts.{boxes_text, depth_text, head_text, holders_text, margin_text, shift_text, stays_text, times_text}
 
 -- ---- two boxes
 

@@ -2,24 +2,24 @@
 use Rattle.std.specs.Prelude.{◌≡◌, ◌++◌, ◌||◌, ℕ, List, length, nat_lt, take, Option}
 use Rattle.explain.specs.Explained.{zones_told}
 use Rattle.explain.specs.Focused.{IsFocus}
-use Rattle.told_texts.specs.Headlines.{first_line}
+use Rattle.explain_texts.specs.Headlines.{first_line}
 use Rattle.job_types.specs.Job.{JobView}
 use Rattle.order_clocks.specs.Clocked.{ClocksView}
 use Rattle.order_clocks.specs.Tells.{is_before_in}
-use Rattle.picture_views.specs.declared.shapes.Picture.{Picture}
+use Rattle.explain_views.specs.declared.shapes.Picture.{Picture}
 use Rattle.zone_stretches.specs.Overlaps.{compared_pairs}
 use Rattle.zone_stretches.specs.Stretches.{StretchesView}
-use Rattle.run_drawing.specs.Drawing.{drawing_text}
-use Rattle.run_pictures.specs.Boxes.{all_tiles}
-use Rattle.run_pictures.specs.Focus.{SceneView}
-use Rattle.run_pictures.specs.Moments.{channels_of, moments_from}
-use Rattle.run_pictures.specs.Named.{named_tiles}
-use Rattle.run_pictures.specs.Spans.{named_spans}
-use Rattle.run_pictures.specs.Tracks.{all_tracks}
-use Rattle.run_pictures.specs.declared.picture.TheConstants.{MOMENT_LIMIT, TILE_LIMIT}
+use Rattle.explain_drawing.specs.Drawing.{drawing_text}
+use Rattle.explain_pictures.specs.Boxes.{all_tiles}
+use Rattle.explain_pictures.specs.Focus.{SceneView}
+use Rattle.explain_pictures.specs.Moments.{channels_of, moments_from}
+use Rattle.explain_pictures.specs.Named.{named_tiles}
+use Rattle.explain_pictures.specs.Spans.{named_spans}
+use Rattle.explain_pictures.specs.Tracks.{all_tracks}
+use Rattle.explain_pictures.specs.declared.picture.TheConstants.{MOMENT_LIMIT, TILE_LIMIT}
 use Rattle.sync_types.specs.Views.{RunView}
 use Rattle.sync_types.specs.declared.verdicts.Verdict.{Verdict}
-use Rattle.told_places.specs.declared.place.Meeting.{Meeting}
+use Rattle.explain_places.specs.declared.place.Meeting.{Meeting}
 
 -- what a drawing is made of, with the boxes that it looks at
 abbrev pub scene_of : JobView → RunView → ClocksView → StretchesView → Option Meeting → SceneView

@@ -1,31 +1,31 @@
 -- Meaning. How a verdict is explained.
 use Rattle.std.specs.Prelude.{◌≡◌, ℕ, List, [], ◌∷◌, ◌++◌, codes, Option, None, Some}
 use Rattle.std.specs.Fmt.{decimal}
-use Rattle.alarm_states.specs.Alarms.{alarm_line}
-use Rattle.alarm_states.specs.States.{IsToldOf}
-use Rattle.alarm_states.specs.Texts.{state_text}
-use Rattle.alarm_states.specs.declared.state.AlarmState.{AlarmState}
+use Rattle.explain_alarms.specs.Alarms.{alarm_line}
+use Rattle.explain_alarms.specs.States.{IsToldOf}
+use Rattle.explain_alarms.specs.Texts.{state_text}
+use Rattle.explain_alarms.specs.declared.state.AlarmState.{AlarmState}
 use Rattle.clash_check.specs.PairNumbers.{numbers_of}
 use Rattle.explain.specs.Clashes.{IsMetText}
-use Rattle.told_texts.specs.Headlines.{headline, yes_line}
+use Rattle.explain_texts.specs.Headlines.{headline, yes_line}
 use Rattle.explain.specs.Numbers.{IsUndecidedText}
 use Rattle.explain.specs.Room.{IsYesText}
 use Rattle.job_types.specs.Job.{JobView}
-use Rattle.met_boxes.specs.ZonePairs.{zone_pairs_of}
+use Rattle.explain_meetings.specs.ZonePairs.{zone_pairs_of}
 use Rattle.order_clocks.specs.Clocked.{ClocksView}
 use Rattle.order_clocks.specs.Tells.{is_before_in}
 use Rattle.zone_stretches.specs.Overlaps.{compared_pairs}
 use Rattle.zone_stretches.specs.Stretches.{StretchesView}
-use Rattle.run_assumptions.specs.Assumptions.{assumptions_of}
-use Rattle.run_assumptions.specs.Texts.{assumptions_text}
-use Rattle.stop_reasons.specs.Alarms.{alarm_text}
-use Rattle.stop_reasons.specs.RaceTexts.{race_text}
-use Rattle.stop_reasons.specs.Stuck.{last_board, stuck_text}
+use Rattle.explain_assumptions.specs.Assumptions.{assumptions_of}
+use Rattle.explain_assumptions.specs.Texts.{assumptions_text}
+use Rattle.explain_stops.specs.Alarms.{alarm_text}
+use Rattle.explain_stops.specs.RaceTexts.{race_text}
+use Rattle.explain_stops.specs.Stuck.{last_board, stuck_text}
 use Rattle.sync_types.specs.Views.{RunView, StartView}
 use Rattle.sync_types.specs.declared.verdicts.Verdict.{Verdict}
 use Rattle.sync_types.specs.declared.verdicts.Verdict.TheVariants.{Alarm, No, Race, Stuck, Undecided, Yes}
-use Rattle.told_places.specs.declared.place.Meeting.{Meeting}
-use Rattle.zone_pairs.specs.declared.pairs.ZonePair.{ZonePair}
+use Rattle.explain_places.specs.declared.place.Meeting.{Meeting}
+use Rattle.explain_pairs.specs.declared.pairs.ZonePair.{ZonePair}
 
 -- what an alarmed block found, under its channel
 unfoldable pub one_found_text : ℕ → List ℕ → List ℕ

@@ -1,13 +1,13 @@
 -- Meaning. What a drawing looks at.
 use Rattle.std.specs.Prelude.{◌≡◌, int_lt, List, fold, if◌then◌else◌, Option, None, Some}
 use Rattle.job_types.specs.Job.{JobView}
-use Rattle.met_boxes.specs.Nearest.{AreNearest}
-use Rattle.met_boxes.specs.declared.nearest.Near.{Near}
+use Rattle.explain_meetings.specs.Nearest.{AreNearest}
+use Rattle.explain_meetings.specs.declared.nearest.Near.{Near}
 use Rattle.zone_stretches.specs.Overlaps.{Pair}
 use Rattle.sync_types.specs.Views.{RunView}
 use Rattle.sync_types.specs.declared.verdicts.Verdict.{Verdict}
 use Rattle.sync_types.specs.declared.verdicts.Verdict.TheVariants.{Alarm, No, Race, Stuck, Undecided, Yes}
-use Rattle.told_places.specs.declared.place.Meeting.{Meeting}
+use Rattle.explain_places.specs.declared.place.Meeting.{Meeting}
 
 -- the nearer of two pairs: the one that reaches further
 abbrev pub nearer : Near → Option Near → Near

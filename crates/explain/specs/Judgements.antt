@@ -4,7 +4,7 @@ use Rattle.channel_machine.specs.Scripts.{IsRunInOrder}
 use Rattle.channel_machine.specs.StartStates.{start_of}
 use Rattle.clash_check.specs.Verdicts.{verdict_by}
 use Rattle.job_types.specs.Job.{JobView}
-use Rattle.met_boxes.specs.Meetings.{meetings_of}
+use Rattle.explain_meetings.specs.Meetings.{meetings_of}
 use Rattle.order_clocks.specs.Clocked.{ClocksView}
 use Rattle.order_clocks.specs.Tells.{is_before_in}
 use Rattle.zone_stretches.specs.Overlaps.{Order}
@@ -15,7 +15,7 @@ use Rattle.sync_types.specs.Views.{RunView}
 use Rattle.sync_types.specs.declared.verdicts.PlaceName.{PlaceName}
 use Rattle.sync_types.specs.declared.verdicts.Verdict.TheVariants.{No}
 use Rattle.sync_types.specs.declared.verdicts.Verdict.{Verdict}
-use Rattle.told_places.specs.declared.place.Meeting.{Meeting}
+use Rattle.explain_places.specs.declared.place.Meeting.{Meeting}
 
 -- the run is that in order, and the verdict is the one on it, by the order of its events and the times of its zones
 pub record IsExplainedBy (job : JobView) (run : RunView) (clocks : ClocksView) (stretches : StretchesView) (verdict : Verdict) : Type 0 where

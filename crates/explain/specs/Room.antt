@@ -2,14 +2,14 @@
 use Rattle.std.specs.Prelude.{◌≡◌, ℕ, List, ◌++◌}
 use Rattle.std.specs.List.{flat_map}
 use Rattle.job_types.specs.Job.{JobView}
-use Rattle.met_boxes.specs.Nearest.{AreNearest}
-use Rattle.met_boxes.specs.declared.nearest.Near.{Near}
+use Rattle.explain_meetings.specs.Nearest.{AreNearest}
+use Rattle.explain_meetings.specs.declared.nearest.Near.{Near}
 use Rattle.zone_stretches.specs.Overlaps.{Pair}
 use Rattle.sync_types.specs.Views.{RunView}
-use Rattle.told_places.specs.Places.{place_text}
-use Rattle.told_texts.specs.Room.{apart_of, groups_text, margin_left, room_text}
-use Rattle.zone_pairs.specs.PairTexts.{pairs_text}
-use Rattle.zone_pairs.specs.declared.pairs.ZonePair.{ZonePair}
+use Rattle.explain_places.specs.Places.{place_text}
+use Rattle.explain_texts.specs.Room.{apart_of, groups_text, margin_left, room_text}
+use Rattle.explain_pairs.specs.PairTexts.{pairs_text}
+use Rattle.explain_pairs.specs.declared.pairs.ZonePair.{ZonePair}
 
 -- how near two groups come to each other, and with which blocks
 unfoldable pub near_text : List ℕ → JobView → RunView → Near → List ℕ

@@ -9,8 +9,8 @@ ghost use Rattle.job_lines.specs.declared.limits.TheConstants.{DEPTH_LIMIT, INPU
 ghost use Rattle.job_types.specs.SoundJob.{BlocksFit, IsSoundJob};
 ghost use Rattle.zone_stretches.specs.Told.{IsTold};
 ghost use Rattle.zone_stretches.specs.ZoneBoxes.{IsFit};
-ghost use Rattle.ready_copies.specs.Copies.{left_out_text};
-ghost use Rattle.refused_lines.specs.Listing.{refusals_text};
+ghost use Rattle.explain_ready.specs.Copies.{left_out_text};
+ghost use Rattle.explain_refused.specs.Listing.{refusals_text};
 ghost use Rattle.sync_types.specs.Boards.{first_board};
 ghost use Rattle.sync_types.specs.Runs.{ComesFrom};
 ghost use Rattle.sync_types.specs.Turns.{AreEntries};
@@ -24,16 +24,16 @@ use crate::progress::{Stage, Watch};
 use crate::words::Form;
 use channel_machine::start_state;
 use exit_statuses::Status;
+use explain_data::refusal_data;
+use explain_lines::Lines;
+use explain_places::Meeting;
+use explain_ready::left_out_text;
+use explain_refused::{RefusedLine, explain_refusals, refused_lines};
 use fault_codes::Refusal;
-use input_lines::Lines;
 use job_types::Job;
 use out_of_memory::NoMemory;
-use ready_copies::left_out_text;
-use refused_lines::{RefusedLine, explain_refusals, refused_lines};
 use std::alloc::Global;
 use tape_job::{JobFault, line_refusals, read_job};
-use told_data::refusal_data;
-use told_places::Meeting;
 
 /// A text, and the status that it comes with.
 #[derive(Drop)]

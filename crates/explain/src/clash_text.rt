@@ -9,16 +9,16 @@ ghost use Rattle.zone_stretches.specs.ZoneBoxes.{IsFit};
 
 use crate::judged::Judged;
 use crate::line_texts::{LineTexts, say_known, texts_of};
-use box_clashes::{Clash, clash_of};
-use growing_text::Text;
-use job_types::Job;
-use met_boxes::{Group, groups_of};
-use out_of_memory::NoMemory;
-use std::alloc::Global;
-use told_places::{Meeting, Place, Told, say_zone};
-use told_texts::{
+use explain_clashes::{Clash, clash_of};
+use explain_meetings::{Group, groups_of};
+use explain_places::{Meeting, Place, Told, say_zone};
+use explain_texts::{
     say_boxes, say_depth, say_head, say_holders, say_margin, say_shift, say_stays, say_times,
 };
+use growing_text::Text;
+use job_types::Job;
+use out_of_memory::NoMemory;
+use std::alloc::Global;
 
 /// Says by what two boxes would be apart.
 #[tactic(auto, unfolding(crate::specs::Clashes::ways_text))]

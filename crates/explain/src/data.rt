@@ -7,25 +7,25 @@ ghost use Rattle.sync_types.specs.Runs.{ComesFrom};
 
 use crate::data_waits::waits_data;
 use crate::judged::Judged;
-use alarm_states::{AlarmState, Call, alarm_state};
 use axis_sets::{CHANNEL_PLACES, ChannelId};
-use box_clashes::clash_of;
 use clash_check::{PairNumber, pair_numbers};
-use met_boxes::{Group, Near, groups_of, nearest_of, zone_pairs_of};
-use out_of_memory::NoMemory;
-use run_assumptions::{Assumed, Assumption, assumptions_of};
-use serde_json::Value;
-use std::alloc::{AllocError, Global};
-use stop_reasons::{end_of, race_prize, race_remedy};
-use sync_types::{Race, Verdict};
-use told_data::{
+use explain_alarms::{AlarmState, Call, alarm_state};
+use explain_assumptions::{Assumed, Assumption, assumptions_of};
+use explain_clashes::clash_of;
+use explain_data::{
     GrantedData, MetData, NearFacts, NoData, YesData, alarm_data, block_data, clash_data,
     first_data, line_of, near_data, number_data, race_data, readings_data, state_data, stop_data,
     stuck_data, undecided_data, verdict_line,
 };
-use told_places::{Meeting, Told};
-use told_texts::{apart_of, margin_left};
-use zone_pairs::pairs_data;
+use explain_meetings::{Group, Near, groups_of, nearest_of, zone_pairs_of};
+use explain_pairs::pairs_data;
+use explain_places::{Meeting, Told};
+use explain_stops::{end_of, race_prize, race_remedy};
+use explain_texts::{apart_of, margin_left};
+use out_of_memory::NoMemory;
+use serde_json::Value;
+use std::alloc::{AllocError, Global};
+use sync_types::{Race, Verdict};
 
 /// What is taken for granted of a channel.
 fn assumption_data<'a>(

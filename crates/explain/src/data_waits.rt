@@ -2,16 +2,16 @@
 ghost use Rattle.std.specs.Prelude.{◌^◌, ◌<◌, length};
 ghost use Rattle.sync_types.specs.Runs.{ComesFrom};
 
-use out_of_memory::NoMemory;
-use serde_json::Value;
-use std::alloc::{AllocError, Global};
-use stop_reasons::{Lack, MarkRow, Remedy, WaitRow, mark_rows, wait_rows};
-use sync_types::StartState;
-use told_data::{
+use explain_data::{
     MarkFacts, WaitFacts, WaitsData, axis_lack, end_lack, mark_data, mark_lack, own_end_lack,
     wait_data,
 };
-use told_places::Told;
+use explain_places::Told;
+use explain_stops::{Lack, MarkRow, Remedy, WaitRow, mark_rows, wait_rows};
+use out_of_memory::NoMemory;
+use serde_json::Value;
+use std::alloc::{AllocError, Global};
+use sync_types::StartState;
 
 /// What is lacking: its kind, the number of a mark, the channel that could give it, and the name of an axis.
 fn lack_data(alloc: Global, told: &Told, lack: Lack) -> Result<Value, NoMemory> {

@@ -3,7 +3,7 @@ ghost use Rattle.std.specs.Prelude.{◌≡◌, ◌≤◌, All, IfOk, slice_get};
 ghost use Rattle.explain.specs.Drawn.{IsDrawn};
 ghost use Rattle.explain.specs.Explained.{zones_told};
 ghost use Rattle.explain.specs.Focused as model;
-ghost use Rattle.told_texts.specs.Headlines.{first_line, headline, yes_line};
+ghost use Rattle.explain_texts.specs.Headlines.{first_line, headline, yes_line};
 ghost use Rattle.job_lines.specs.declared.limits.TheConstants.{DEPTH_LIMIT};
 ghost use Rattle.job_types.specs.SoundJob.{IsSoundJob};
 ghost use Rattle.order_clocks.specs.Tells.{is_before_in};
@@ -12,15 +12,15 @@ ghost use Rattle.zone_stretches.specs.Told.{IsTold};
 ghost use Rattle.zone_stretches.specs.ZoneBoxes.{IsFit};
 
 use crate::judged::Judged;
+use explain_drawing::draw;
+use explain_meetings::{Near, nearest_of, zone_pairs_of};
+use explain_pictures::{Scene, picture_of};
+use explain_places::Meeting;
+use explain_texts::{say_headline, say_yes_line};
 use growing_text::Text;
-use met_boxes::{Near, nearest_of, zone_pairs_of};
 use out_of_memory::NoMemory;
-use run_drawing::draw;
-use run_pictures::{Scene, picture_of};
 use std::alloc::Global;
 use sync_types::Verdict;
-use told_places::Meeting;
-use told_texts::{say_headline, say_yes_line};
 
 /// The nearer of two pairs of boxes.
 fn nearer(one: &Near, other: Option<Near>) -> Near

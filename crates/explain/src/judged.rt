@@ -1,12 +1,12 @@
 //! A judged job.
 ghost use Rattle.std.specs.Prelude.{◌≡◌};
 
-use input_lines::Lines;
+use explain_lines::Lines;
+use explain_places::{Meeting, Told};
 use job_types::Job;
 use order_clocks::Clocks;
 use protection_zones::Stretches;
 use sync_types::{Run, StartState, Verdict};
-use told_places::{Meeting, Told};
 
 /// A judged job, with all that an explanation is made of.
 #[derive(Clone, Copy)]

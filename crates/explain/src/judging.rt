@@ -3,19 +3,19 @@ ghost use Rattle.std.specs.Prelude.{◌≡◌, IfOk};
 ghost use Rattle.explain.specs.Judgements.{AreMet, IsExplainedBy};
 ghost use Rattle.job_types.specs.SoundJob.{BlocksFit, IsSoundJob};
 ghost use Rattle.order_clocks.specs.Tells.{is_before_in};
-ghost use Rattle.met_boxes.specs.Meetings.{meetings_of};
+ghost use Rattle.explain_meetings.specs.Meetings.{meetings_of};
 
 use crate::progress::{Stage, Watch};
 use clash_check::judge;
+use explain_meetings::meetings_of;
+use explain_places::Meeting;
 use job_types::Job;
-use met_boxes::meetings_of;
 use order_clocks::{Clocks, clocks_of};
 use out_of_memory::NoMemory;
 use product_run::run_in_order;
 use protection_zones::{Stretches, stretches_of};
 use std::alloc::Global;
 use sync_types::{Run, Verdict};
-use told_places::Meeting;
 
 /// The run of a job in order and the verdict on it, with the clocks and the stretches of zones that the verdict rests on.
 #[derive(Drop)]

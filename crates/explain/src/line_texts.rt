@@ -4,12 +4,12 @@ ghost use Rattle.std.specs.Prelude.{◌≡◌, ◌++◌, IfOk, OnOk};
 ghost use Rattle.explain.specs.Clashes as model;
 ghost use Rattle.explain.specs.LineTexts.{AreSaid};
 
+use explain_meetings::Group;
+use explain_places::{Meeting, Told, say_line};
 use growing_text::Text;
 use indexmap::IndexMap;
-use met_boxes::Group;
 use out_of_memory::NoMemory;
 use std::alloc::Global;
-use told_places::{Meeting, Told, say_line};
 
 /// Lines of blocks, each with how it is said.
 #[derive(Drop)]

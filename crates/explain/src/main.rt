@@ -16,8 +16,8 @@ mod progress;
 mod refusal_lines;
 mod words;
 
-use call_ends::Ends;
 use calls::answer_arguments;
+use explain_calls::Ends;
 use std::env;
 use std::io::IsTerminal;
 use std::process::ExitCode;

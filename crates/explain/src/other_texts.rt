@@ -13,13 +13,13 @@ ghost use Rattle.zone_stretches.specs.ZoneBoxes.{IsFit};
 
 use crate::judged::Judged;
 use clash_check::{PairNumber, pair_numbers};
+use explain_meetings::{Near, nearest_of};
+use explain_pairs::{ZonePair, say_zone_pairs};
+use explain_places::{Told, say_place};
+use explain_texts::{apart_of, margin_left, say_room, say_two_groups};
 use growing_text::Text;
-use met_boxes::{Near, nearest_of};
 use out_of_memory::NoMemory;
 use std::alloc::Global;
-use told_places::{Told, say_place};
-use told_texts::{apart_of, margin_left, say_room, say_two_groups};
-use zone_pairs::{ZonePair, say_zone_pairs};
 
 /// Says how near two groups come to each other, and where.
 #[tactic(auto, unfolding(crate::specs::Room::near_text))]

@@ -2,12 +2,12 @@
 ghost use Rattle.std.specs.Prelude.{◌≤◌, length};
 ghost use Rattle.job_lines.specs.declared.limits.TheConstants.{INPUT_LIMIT};
 
+use explain_lines::{Lines, origin_of};
+use explain_refused::{RefusedLine, lines_text, refused_lines};
 use fault_codes::Refusal;
 use growing_text::Text;
 use indexmap::IndexMap;
-use input_lines::{Lines, origin_of};
 use out_of_memory::NoMemory;
-use refused_lines::{RefusedLine, lines_text, refused_lines};
 use std::alloc::Global;
 use tape_job::{JobFault, line_refusals, read_job};
 

@@ -1,4 +1,4 @@
-use Rattle.told_texts.proofs.TextLaws.{two_more}
+use Rattle.explain_texts.proofs.TextLaws.{two_more}
 use Rattle.explain.specs.Clashes.{groups_text}
 use Rattle.explain.proofs.clash_text.say_groups.Goals as goal
 

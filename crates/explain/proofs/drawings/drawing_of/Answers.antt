@@ -2,8 +2,8 @@ use Rattle.std.proofs.Common.{◌∙◌, ℕ, List, ap}
 use Rattle.std.proofs.lemmas.Result.{IfOk-weaker}
 use Rattle.explain.proofs.DrawLaws.{picture_of_first}
 use Rattle.job_types.specs.Job.{JobView}
-use Rattle.run_drawing.specs.Drawing.{drawing_text}
-use Rattle.run_pictures.specs.Focus.{view_of}
+use Rattle.explain_drawing.specs.Drawing.{drawing_text}
+use Rattle.explain_pictures.specs.Focus.{view_of}
 use Rattle.explain.proofs.drawings.drawing_of.Goals as goal
 
 pub returns : goal.returns

@@ -1,5 +1,5 @@
 use Rattle.std.proofs.Common.{◌∙◌, ap}
-use Rattle.told_texts.specs.Headlines.{first_line, headline}
+use Rattle.explain_texts.specs.Headlines.{first_line, headline}
 use Rattle.explain.proofs.drawings.title_of.Goals as goal
 
 pub returns-in-Yes : goal.returns-in-Yes

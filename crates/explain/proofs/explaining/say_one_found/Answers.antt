@@ -1,6 +1,6 @@
 use Rattle.std.proofs.Common.{ap, ◌++◌, ◌∙◌}
 use Rattle.std.specs.Fmt.{decimal}
-use Rattle.told_texts.proofs.TextLaws.{four_more}
+use Rattle.explain_texts.proofs.TextLaws.{four_more}
 use Rattle.explain.specs.Explained.{one_found_text}
 use Rattle.explain.proofs.explaining.say_one_found.Goals as goal
 

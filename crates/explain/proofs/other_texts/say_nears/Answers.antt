@@ -1,4 +1,4 @@
-use Rattle.told_texts.proofs.TextLaws.{two_more}
+use Rattle.explain_texts.proofs.TextLaws.{two_more}
 use Rattle.explain.specs.Room.{nears_text}
 use Rattle.explain.proofs.other_texts.say_nears.Goals as goal
 

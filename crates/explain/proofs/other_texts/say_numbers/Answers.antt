@@ -1,4 +1,4 @@
-use Rattle.told_texts.proofs.TextLaws.{three_more}
+use Rattle.explain_texts.proofs.TextLaws.{three_more}
 use Rattle.explain.specs.Numbers.{numbers_text}
 use Rattle.explain.proofs.other_texts.say_numbers.Goals as goal
 

@@ -1,7 +1,0 @@
-use Rattle.std.proofs.Common.{◌≡◌}
-use Rattle.nc_blocks.specs.Statement.{statement_view}
-use Rattle.block_readings.specs.Readings.{readings_below}
-use Rattle.block_readings.proofs.readings.readings_below.Given as goal
-
-abbrev pub invariant-loop-number : goal.invariant-loop-number
-invariant-loop-number g l = l.list.items ≡ readings_below (g.N.Names.parameter l.names) (statement_view l.opener) (statement_view l.statement) l.number

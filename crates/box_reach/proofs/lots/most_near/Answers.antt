@@ -1,5 +1,0 @@
-use Rattle.std.proofs.Common.{[], refl}
-use Rattle.box_reach.proofs.lots.most_near.Goals as goal
-
-pub returns : goal.returns
-returns c = c.most_among.ensures [] refl

@@ -1,0 +1,6 @@
+use Rattle.explain_advice.specs.Advice.{refusals}
+use Rattle.explain_advice.proofs.advice.refusal_advice.Goals as goal
+
+pub returns : goal.returns
+unfolding refusals
+returns c = c.advice_of.ensures

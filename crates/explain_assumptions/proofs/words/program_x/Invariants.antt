@@ -1,0 +1,8 @@
+use Rattle.std.proofs.Common.{◌≡◌, drop, map}
+use Rattle.std.specs.List.{list_any}
+use Rattle.nc_blocks.specs.Statement.{word_view}
+use Rattle.explain_assumptions.specs.Remarks.{programs_x}
+use Rattle.explain_assumptions.proofs.words.program_x.Given as goal
+
+abbrev pub invariant-loop-word : goal.invariant-loop-word
+invariant-loop-word l = list_any programs_x (map word_view (drop l.word-index l.words)) ≡ list_any programs_x (map word_view l.words)

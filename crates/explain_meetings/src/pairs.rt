@@ -1,0 +1,224 @@
+//! What is told of each two zones of a job.
+ghost use Rattle.std.specs.Prelude.{◌≡◌, ◌≤◌, ◌++◌, ◌∷◌, [], All, IfOk, OnOk, find, map};
+ghost use Rattle.std.specs.List.{flat_map};
+ghost use Rattle.std.specs.Option.{option_map};
+ghost use Rattle.job_lines.specs.declared.limits.TheConstants.{DEPTH_LIMIT};
+ghost use Rattle.job_types.specs.SoundJob.{IsSoundJob};
+ghost use Rattle.explain_meetings.specs.PairSteps.{AreReady};
+ghost use Rattle.explain_meetings.specs.Rows.{pairs_in, rows_by_group, rows_for};
+ghost use Rattle.explain_meetings.specs.ZonePairs as model;
+ghost use Rattle.order_clocks.specs.Tells.{is_before_in};
+ghost use Rattle.zone_stretches.specs.Told.{IsTold};
+ghost use Rattle.zone_stretches.specs.ZoneBoxes.{IsFit};
+
+use crate::counts::count_in;
+use crate::meetings::Scene;
+use crate::nearest::{Near, nearest_in};
+use crate::rows::{Time, add_zones, rest, times_of};
+use axis_sets::{ChannelId, ZoneId};
+use explain_pairs::{Absent, Comparison, PairKind, Presence, ZoneFacts, ZonePair};
+use job_types::Job;
+use order_clocks::Clocks;
+use out_of_memory::NoMemory;
+use std::alloc::{AllocError, Global};
+use sync_types::Run;
+use zone_stretches::{Stretch, Stretches, is_of};
+
+/// Whether a zone is on in a stretch.
+fn is_on(stretch: &Stretch) -> bool
+    ensures { result ≡ model.is_on stretch.now }
+{
+    !stretch.boxes.is_empty()
+}
+
+/// Who holds the zone of these stretches in the first of them in which it is on; none where it is never on.
+fn first_holder(stretches: &[Stretch]) -> Option<Option<ChannelId>>
+    ensures { result ≡ option_map (λ stretch. stretch.name.channel) (find model.is_on stretches.now) }
+{
+    for stretch in stretches {
+        if is_on(stretch) {
+            return Some(stretch.name.channel);
+        }
+    }
+    None
+}
+
+/// Whether a channel holds a zone in this stretch, if it is on there.
+fn is_held_in(channel: ChannelId, stretch: &Stretch) -> bool
+    ensures { result ≡ model.is_held_in channel stretch.now }
+{
+    !is_on(stretch) || is_of(channel, stretch.name.channel)
+}
+
+/// Whether a channel holds the zone of these stretches whenever it is on.
+fn is_held_by(channel: ChannelId, stretches: &[Stretch]) -> bool
+    ensures { result ≡ model.is_held_by channel stretches.now }
+{
+    for stretch in stretches {
+        if !is_held_in(channel, stretch) {
+            return false;
+        }
+    }
+    true
+}
+
+/// When the zone of these stretches is on.
+#[tactic(auto, unfolding(crate::specs::ZonePairs::presence_of))]
+fn presence_of(stretches: &[Stretch]) -> Presence
+    ensures { result ≡ model.presence_of stretches.now }
+{
+    match first_holder(stretches) {
+        None => Presence::Never,
+        Some(None) => Presence::Changing,
+        Some(Some(channel)) => {
+            if is_held_by(channel, stretches) {
+                Presence::HeldBy(channel)
+            } else {
+                Presence::Changing
+            }
+        }
+    }
+}
+
+/// The number of a zone, its group, and when it is on.
+#[tactic(auto, unfolding(crate::specs::ZonePairs::facts_of))]
+fn facts_of(time: &Time) -> ZoneFacts
+    ensures { result ≡ model.facts_of time.now }
+{
+    ZoneFacts {
+        zone: time.zone.zone,
+        group: time.zone.group,
+        presence: presence_of(time.stretches),
+    }
+}
+
+/// What is found of so many pairs of which these come nearest.
+fn found_with(count: u64, near: &Near) -> Comparison
+    ensures count { result.count ≡ count }
+    ensures reach { result.reach ≡ near.now.reach }
+{
+    Comparison {
+        count,
+        reach: near.reach,
+    }
+}
+
+/// What is found of the boxes of two zones; none where none are compared.
+fn comparison_of<'a>(
+    scene: &Scene,
+    one: &'a Time<'a>,
+    two: &'a Time<'a>,
+) -> Result<Option<Comparison>, AllocError>
+    requires fit { All (All IsFit) scene.now.run.now.items }
+    requires deep { scene.now.job.now.depth ≤ DEPTH_LIMIT }
+    requires ready { AreReady (is_before_in scene.now.clocks.now.rows) scene.now.job.now scene.now.run.now
+        (rows_for one.now two.now) }
+    ensures { IfOk result (λ found. found ≡ model.comparison_of scene.now.job.now scene.now.run.now
+        (model.pairs_of_two (is_before_in scene.now.clocks.now.rows) one.now two.now)) }
+{
+    let mut rows = Vec::new(scene.alloc);
+    add_zones(&mut rows, one, two)?;
+    let parts = rows.as_slice();
+    let near = nearest_in(scene.alloc, scene, parts)?;
+    let nears = near.as_slice();
+    if nears.is_empty() {
+        return Ok(None);
+    }
+    let count = count_in(scene.clocks, parts);
+    Ok(Some(found_with(count, &nears[0])))
+}
+
+/// What is told of two zones.
+#[tactic(auto, unfolding(crate::specs::ZonePairs::two_of))]
+fn two_of<'a>(scene: &Scene, one: &'a Time<'a>, two: &'a Time<'a>) -> Result<ZonePair, AllocError>
+    requires fit { All (All IsFit) scene.now.run.now.items }
+    requires deep { scene.now.job.now.depth ≤ DEPTH_LIMIT }
+    requires ready { AreReady (is_before_in scene.now.clocks.now.rows) scene.now.job.now scene.now.run.now
+        (rows_for one.now two.now) }
+    ensures { IfOk result (λ pair. pair ≡ model.two_of (is_before_in scene.now.clocks.now.rows) scene.now.job.now
+        scene.now.run.now one.now two.now) }
+{
+    let found = comparison_of(scene, one, two)?;
+    Ok(ZonePair::of(&facts_of(one), &facts_of(two), found))
+}
+
+/// Adds what is told of two zones. Its parts are named here, as the check of a `push` asks for it.
+fn add(pairs: &mut Vec<ZonePair>, pair: &ZonePair) -> Result<(), AllocError>
+    ensures { OnOk result (pairs.new.items ≡ pairs.old.items ++ pair.now ∷ []) }
+{
+    let zones = pair.zones;
+    let _zone: ZoneId = zones.0;
+    let _kind: PairKind = pair.kind;
+    let _parts: Option<(Absent, Comparison, ChannelId)> = None;
+    pairs.push(*pair)?;
+    Ok(())
+}
+
+/// Adds what is told of a zone with each of some others. What rows are made of is named here, as the check of the loop asks for it.
+fn add_with<'a>(
+    pairs: &mut Vec<ZonePair>,
+    scene: &Scene,
+    one: &'a Time<'a>,
+    others: &'a [Time<'a>],
+) -> Result<(), AllocError>
+    requires fit { All (All IsFit) scene.now.run.now.items }
+    requires deep { scene.now.job.now.depth ≤ DEPTH_LIMIT }
+    requires ready { AreReady (is_before_in scene.now.clocks.now.rows) scene.now.job.now scene.now.run.now
+        (flat_map (rows_for one.now) others.now) }
+    ensures { OnOk result (pairs.new.items ≡ pairs.old.items
+        ++ map (model.two_of (is_before_in scene.now.clocks.now.rows) scene.now.job.now scene.now.run.now one.now)
+        others.now) }
+{
+    let _parts: Option<(ZoneId, PairKind, Absent, Comparison, ChannelId)> = None;
+    for two in others {
+        let pair = two_of(scene, one, two)?;
+        add(pairs, &pair)?;
+    }
+    Ok(())
+}
+
+/// What is told of each two of these zones. What rows are made of is named here too.
+fn each_two_of<'a>(scene: &Scene, times: &'a [Time<'a>]) -> Result<Vec<ZonePair>, AllocError>
+    requires fit { All (All IsFit) scene.now.run.now.items }
+    requires deep { scene.now.job.now.depth ≤ DEPTH_LIMIT }
+    requires ready { AreReady (is_before_in scene.now.clocks.now.rows) scene.now.job.now scene.now.run.now
+        (rows_by_group times.now) }
+    ensures { IfOk result (λ pairs. pairs.items ≡ model.each_two_of
+        (is_before_in scene.now.clocks.now.rows) scene.now.job.now scene.now.run.now times.now) }
+{
+    let _parts: Option<(ZoneId, PairKind, Absent, Comparison, ChannelId)> = None;
+    let mut pairs = Vec::new(scene.alloc);
+    for place in 0..times.len() {
+        add_with(&mut pairs, scene, &times[place], rest(times, place + 1))?;
+    }
+    Ok(pairs)
+}
+
+/// What is told of each two zones of a job in a run, in the order of their numbers: the first that holds of one group, a zone that is
+/// never on, boxes that are compared, with their count and how near they come, and boxes that are all kept apart in time. It takes
+/// memory for each two zones, and while two stretches are looked at for the boxes by which those of the second are compared.
+#[tactic(auto, unfolding(crate::specs::ZonePairs::zone_pairs_of))]
+pub fn zone_pairs_of(
+    alloc: Global,
+    job: &Job,
+    run: &Run,
+    stretches: &Stretches,
+    clocks: &Clocks,
+) -> Result<Vec<ZonePair>, NoMemory>
+    requires sound { IsSoundJob job.now }
+    requires whole { IsTold job.now run.now stretches.now clocks.now }
+    requires fit { All (All IsFit) run.now.items }
+    ensures { IfOk result (λ pairs. pairs.items
+        ≡ model.zone_pairs_of (is_before_in clocks.now.rows) job.now run.now stretches.now) }
+{
+    let times = times_of(alloc, job, stretches)?;
+    let all = times.as_slice();
+    let scene = Scene {
+        alloc,
+        job,
+        run,
+        clocks,
+    };
+    let pairs = each_two_of(&scene, all)?;
+    Ok(pairs)
+}

@@ -1,0 +1,6 @@
+use Rattle.explain_views.specs.Ticks.{up_part}
+use Rattle.explain_views.proofs.RangeLaws.{next_part}
+use Rattle.explain_views.proofs.views.View.put_up_ticks.Goals as goal
+
+pub loop-number-preserved : goal.loop-number-preserved
+loop-number-preserved c = next_part (up_part c.args.self.now) c.loop-number.number _ _ _ c.loop-number.invariant c.put_up_part.ensures

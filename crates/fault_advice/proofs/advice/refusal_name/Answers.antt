@@ -1,6 +1,0 @@
-use Rattle.fault_advice.specs.Advice.{refusals}
-use Rattle.fault_advice.proofs.advice.refusal_name.Goals as goal
-
-pub returns : goal.returns
-unfolding refusals
-returns c = c.name_of.ensures

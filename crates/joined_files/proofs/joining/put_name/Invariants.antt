@@ -1,6 +1,0 @@
-use Rattle.std.proofs.Common.{◌≡◌, ◌++◌, map, take}
-use Rattle.joined_files.specs.Joined.{comment_byte}
-use Rattle.joined_files.proofs.joining.put_name.Given as goal
-
-abbrev pub invariant-loop-byte : goal.invariant-loop-byte
-invariant-loop-byte l = l.text ≡ l.initial.text ++ map comment_byte (take l.byte-index l.name)

@@ -1,5 +1,0 @@
-use Rattle.joined_files.proofs.TrimLaws.{start_trimmed}
-use Rattle.joined_files.proofs.lines.without_start.Goals as goal
-
-pub returns : goal.returns
-returns c = start_trimmed c.args.text.now c.trim_ascii_start.result.now c.trim_ascii_start.ensures.value

@@ -1,6 +1,0 @@
-use Rattle.std.proofs.Common.{◌≡◌, map, take}
-use Rattle.joined_files.specs.Names.{name_byte}
-use Rattle.joined_files.proofs.names.letters_for.Given as goal
-
-abbrev pub invariant-loop-byte : goal.invariant-loop-byte
-invariant-loop-byte l = l.letters.items ≡ map name_byte (take l.byte-index l.text)

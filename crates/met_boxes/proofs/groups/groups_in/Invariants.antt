@@ -1,5 +1,0 @@
-use Rattle.std.proofs.Common.{◌≡◌, map, take}
-use Rattle.met_boxes.proofs.groups.groups_in.Given as goal
-
-abbrev pub invariant-loop-row : goal.invariant-loop-row
-invariant-loop-row l = l.groups.items ≡ map (λ row. row.group) (take l.row-index l.rows)

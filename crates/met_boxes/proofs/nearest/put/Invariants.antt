@@ -1,7 +1,0 @@
-use Rattle.std.proofs.Common.{◌≡◌}
-use Rattle.met_boxes.proofs.PutLaws.{IsPassed}
-use Rattle.met_boxes.specs.NearSteps.{nearer, same_groups}
-use Rattle.met_boxes.proofs.nearest.put.Given as goal
-
-abbrev pub invariant-loop-place : goal.invariant-loop-place
-invariant-loop-place l = (l.rows.items ≡ l.initial.rows.items) × IsPassed same_groups nearer l.initial.rows.items l.near l.place

@@ -1,7 +1,0 @@
-use Rattle.std.proofs.Common.{◌≡◌, ◌++◌, take}
-use Rattle.std.specs.List.{flat_map}
-use Rattle.picture_views.specs.Shown.{plain_byte}
-use Rattle.picture_views.proofs.shown.put_all_plain.Given as goal
-
-abbrev pub invariant-loop-byte : goal.invariant-loop-byte
-invariant-loop-byte l = l.text ≡ l.initial.text ++ flat_map plain_byte (take l.byte-index l.bytes)

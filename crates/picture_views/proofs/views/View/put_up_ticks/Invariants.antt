@@ -1,7 +1,0 @@
-use Rattle.std.proofs.Common.{◌≡◌, ◌++◌}
-use Rattle.std.specs.List.{flat_map, range_with_len}
-use Rattle.picture_views.specs.Ticks.{up_part}
-use Rattle.picture_views.proofs.views.View.put_up_ticks.Given as goal
-
-abbrev pub invariant-loop-number : goal.invariant-loop-number
-invariant-loop-number l = l.text ≡ l.initial.text ++ flat_map (up_part l.self) (range_with_len 0 l.number)

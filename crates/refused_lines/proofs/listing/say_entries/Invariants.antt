@@ -1,7 +1,0 @@
-use Rattle.std.proofs.Common.{◌≡◌, ◌++◌, take}
-use Rattle.std.specs.List.{flat_map}
-use Rattle.refused_lines.specs.Listing.{entry_of}
-use Rattle.refused_lines.proofs.listing.say_entries.Given as goal
-
-abbrev pub invariant-loop-row : goal.invariant-loop-row
-invariant-loop-row l = l.text ≡ l.initial.text ++ flat_map (entry_of l.quiet l.lines) (take l.row-index l.rows)

@@ -1,6 +1,0 @@
-use Rattle.std.proofs.Common.{◌≡◌, drop}
-use Rattle.refused_lines.specs.Slips.{then_place}
-use Rattle.refused_lines.proofs.slips.then_place.Given as goal
-
-abbrev pub invariant-loop-word : goal.invariant-loop-word
-invariant-loop-word l = then_place (drop l.word-index l.words) ≡ then_place l.fn.words

@@ -1,6 +1,0 @@
-use Rattle.std.proofs.Common.{◌≡◌, drop}
-use Rattle.refused_lines.specs.WordPlaces.{parenthesis_place}
-use Rattle.refused_lines.proofs.word_places.parenthesis_place.Given as goal
-
-abbrev pub invariant-loop-word : goal.invariant-loop-word
-invariant-loop-word l = parenthesis_place (drop l.word-index l.words) ≡ parenthesis_place l.fn.words

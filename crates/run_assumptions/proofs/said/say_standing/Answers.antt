@@ -1,7 +1,0 @@
-use Rattle.run_assumptions.proofs.ListLaws.{four}
-use Rattle.run_assumptions.specs.Texts.{standing_text}
-use Rattle.run_assumptions.proofs.said.say_standing.Goals as goal
-
-pub returns : goal.returns
-unfolding standing_text
-returns c = four _ _ _ _ _ _ _ _ _ c.say.ensures c.say_axis.ensures c.say-2.ensures c.say_block.ensures

@@ -1,7 +1,0 @@
-use Rattle.run_drawing.specs.Drawing.{head_text}
-use Rattle.picture_views.proofs.PieceLaws.{four}
-use Rattle.run_drawing.proofs.drawing.put_head.Goals as goal
-
-pub returns : goal.returns
-unfolding head_text
-returns c = four _ _ _ _ _ _ _ _ _ c.say.ensures c.put_frame_part.ensures c.put_paper_part.ensures c.put_styles.ensures

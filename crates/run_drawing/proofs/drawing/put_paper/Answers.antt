@@ -1,7 +1,0 @@
-use Rattle.run_drawing.specs.Drawing.{paper_text}
-use Rattle.picture_views.proofs.PieceLaws.{three}
-use Rattle.run_drawing.proofs.drawing.put_paper.Goals as goal
-
-pub returns : goal.returns
-unfolding paper_text
-returns c = three _ _ _ _ _ _ _ c.say.ensures c.put_size.ensures c.say-2.ensures

@@ -1,5 +1,0 @@
-use Rattle.run_ends.proofs.MissingLaws.{who_waits_lacks}
-use Rattle.run_ends.proofs.laws.who_waits_lacks_something.Goals as goal
-
-pub returns : goal.returns
-returns c = who_waits_lacks

@@ -1,7 +1,0 @@
-use Rattle.std.proofs.Common.{◌≡◌, drop, map}
-use Rattle.job_types.specs.Job.{block_entry}
-use Rattle.stop_reasons.specs.MarkBlocks.{first_line}
-use Rattle.stop_reasons.proofs.mark_blocks.first_line.Given as goal
-
-abbrev pub invariant-loop-block : goal.invariant-loop-block
-invariant-loop-block l = first_line l.skip l.mark (map block_entry (drop l.block-index l.blocks)) ≡ first_line l.skip l.mark (map block_entry l.blocks)

@@ -1,7 +1,0 @@
-use Rattle.std.proofs.Common.{◌∙◌, ◌||◌, Bool, ap}
-use Rattle.stop_reasons.specs.MarkTables.{is_for}
-use Rattle.stop_reasons.proofs.mark_tables.is_awaited_to.Goals as goal
-
-pub returns : goal.returns
-returns c b shown =
-    c.either.ensures ∙ ap (λ (here : Bool). c.args.before || here) (c.is_for-here.ensures ∙ ap (is_for c.args.mark) (c.hold_of-held.ensures b shown))

@@ -1,9 +1,0 @@
-use Rattle.std.proofs.Common.{◌∙◌, ◌++◌, Option, ap}
-use Rattle.stop_reasons.specs.MarkTables.{some_row_text}
-use Rattle.stop_reasons.specs.declared.passes.MarkRow.{MarkRow}
-use Rattle.stop_reasons.proofs.mark_tables.say_row_of.Goals as goal
-
-pub returns : goal.returns
-returns c =
-    c.say_some_row.ensures
-    ∙ ap (λ (row : Option MarkRow). c.args.text.now ++ some_row_text c.args.told.now.lines.now c.args.told.now.job.now row) c.row_in-row.ensures

@@ -1,7 +1,0 @@
--- Rows of those so far.
-use Rattle.std.proofs.Common.{◌≡◌, ◌++◌, map, take}
-use Rattle.stop_reasons.specs.Rows.{wait_row}
-use Rattle.stop_reasons.proofs.rows.push_rows.Given as goal
-
-abbrev pub invariant-loop-lack : goal.invariant-loop-lack
-invariant-loop-lack l = l.list.items ≡ l.initial.list.items ++ map (wait_row l.told.job.now l.told.run.now l.channel l.line) (take l.lack-index l.lacks)

@@ -1,5 +1,0 @@
-use Rattle.stop_reasons.proofs.TextLaws.{then_said}
-use Rattle.stop_reasons.proofs.stuck_text.say_held.Goals as goal
-
-pub returns : goal.returns
-returns c b shown = then_said _ _ _ _ _ c.say_head.ensures (c.say_hold.ensures b shown)

@@ -1,7 +1,0 @@
-use Rattle.told_places.proofs.TextLaws.{two}
-use Rattle.told_places.specs.Places.{idle_text}
-use Rattle.told_places.proofs.places.say_idle.Goals as goal
-
-pub returns : goal.returns
-unfolding idle_text
-returns c = two _ _ _ _ _ c.say_holder.ensures c.say.ensures

@@ -1,7 +1,0 @@
-use Rattle.told_places.proofs.TextLaws.{five}
-use Rattle.told_places.specs.Spans.{span_text}
-use Rattle.told_places.proofs.spans.say_span.Goals as goal
-
-pub returns : goal.returns
-unfolding span_text
-returns c = five _ _ _ _ _ _ _ _ _ _ _ c.say_zone_from.ensures c.say_first.ensures c.say.ensures c.say_last.ensures c.say-2.ensures
