@@ -106,10 +106,10 @@ pub enum Declaration {
 
 /// The channel that the word names, up to the greatest.
 #[tactic(auto, unfolding(crate::specs::Declaration::channel_of))]
-fn channel_in(greatest: u8, word: &[u8]) -> Result<ChannelId, Code>
+fn channel_in(greatest: ChannelId, word: &[u8]) -> Result<ChannelId, Code>
     ensures { result ≡ channel_of greatest word.now }
 {
-    match small_within(1, greatest, word) {
+    match small_within(1, greatest.number, word) {
         Some(number) => Ok(ChannelId { number }),
         None => Err(Code::OutOfRange),
     }
@@ -159,7 +159,7 @@ fn axis_name_in(word: &[u8]) -> Result<AxisName, Code>
 
 /// The channel that owns an axis or holds a zone, or none where it is free.
 #[tactic(auto, unfolding(crate::specs::Declaration::owner_of))]
-fn owner_in(greatest: u8, word: &[u8]) -> Result<Option<ChannelId>, Code>
+fn owner_in(greatest: ChannelId, word: &[u8]) -> Result<Option<ChannelId>, Code>
     ensures { result ≡ owner_of greatest word.now }
 {
     if word == b"FREE".as_slice() {
@@ -228,7 +228,7 @@ fn named_side_in(carrier: &[u8], lo: &[u8], hi: &[u8]) -> Result<NamedSide, Code
 /// A channel with a program or none.
 #[tactic(auto, unfolding(crate::specs::Declaration::channel_declaration_of))]
 fn channel_declaration_in(
-    greatest: u8,
+    greatest: ChannelId,
     channel: &[u8],
     program: Option<NameText>,
     starts: bool,
@@ -246,7 +246,7 @@ fn channel_declaration_in(
 /// A channel that runs a program from the beginning.
 #[tactic(auto, unfolding(crate::specs::Declaration::starting_declaration_of))]
 fn starting_declaration_in(
-    greatest: u8,
+    greatest: ChannelId,
     channel: &[u8],
     program: &[u8],
     start: &[u8],
@@ -261,7 +261,7 @@ fn starting_declaration_in(
 
 /// What follows CHANNEL.
 #[tactic(auto, unfolding(crate::specs::Declaration::channel_line))]
-fn channel_line_in(greatest: u8, args: &[&[u8]]) -> Result<Declaration, Code>
+fn channel_line_in(greatest: ChannelId, args: &[&[u8]]) -> Result<Declaration, Code>
     ensures { result ≡ channel_line greatest (map (λ word. word.now) args.now) }
 {
     match args {
@@ -280,7 +280,7 @@ fn channel_line_in(greatest: u8, args: &[&[u8]]) -> Result<Declaration, Code>
 /// An axis, its owner and its position.
 #[tactic(auto, unfolding(crate::specs::Declaration::axis_declaration_of))]
 fn axis_declaration_in(
-    greatest: u8,
+    greatest: ChannelId,
     name: &[u8],
     owner: &[u8],
     at: &[u8],
@@ -295,7 +295,7 @@ fn axis_declaration_in(
 
 /// What follows AXIS.
 #[tactic(auto, unfolding(crate::specs::Declaration::axis_line))]
-fn axis_line_in(greatest: u8, args: &[&[u8]]) -> Result<Declaration, Code>
+fn axis_line_in(greatest: ChannelId, args: &[&[u8]]) -> Result<Declaration, Code>
     ensures { result ≡ axis_line greatest (map (λ word. word.now) args.now) }
 {
     match args {
@@ -307,7 +307,7 @@ fn axis_line_in(greatest: u8, args: &[&[u8]]) -> Result<Declaration, Code>
 /// A slot of a channel, and the axis in it.
 #[tactic(auto, unfolding(crate::specs::Declaration::geo_declaration_of))]
 fn geo_declaration_in(
-    greatest: u8,
+    greatest: ChannelId,
     channel: &[u8],
     slot: &[u8],
     axis: &[u8],
@@ -326,7 +326,7 @@ fn geo_declaration_in(
 
 /// What follows GEO.
 #[tactic(auto, unfolding(crate::specs::Declaration::geo_line))]
-fn geo_line_in(greatest: u8, args: &[&[u8]]) -> Result<Declaration, Code>
+fn geo_line_in(greatest: ChannelId, args: &[&[u8]]) -> Result<Declaration, Code>
     ensures { result ≡ geo_line greatest (map (λ word. word.now) args.now) }
 {
     match args {
@@ -338,7 +338,7 @@ fn geo_line_in(greatest: u8, args: &[&[u8]]) -> Result<Declaration, Code>
 /// A settable offset.
 #[tactic(auto, unfolding(crate::specs::Declaration::offset_declaration_of))]
 fn offset_declaration_in(
-    greatest: u8,
+    greatest: ChannelId,
     channel: &[u8],
     g: &[u8],
     slot: &[u8],
@@ -360,7 +360,7 @@ fn offset_declaration_in(
 
 /// What follows OFFSET.
 #[tactic(auto, unfolding(crate::specs::Declaration::offset_line))]
-fn offset_line_in(greatest: u8, args: &[&[u8]]) -> Result<Declaration, Code>
+fn offset_line_in(greatest: ChannelId, args: &[&[u8]]) -> Result<Declaration, Code>
     ensures { result ≡ offset_line greatest (map (λ word. word.now) args.now) }
 {
     match args {
@@ -386,7 +386,7 @@ fn state_in(word: &[u8]) -> Result<bool, Code>
 /// A zone.
 #[tactic(auto, unfolding(crate::specs::Declaration::zone_declaration_of))]
 fn zone_declaration_in(
-    greatest: u8,
+    greatest: ChannelId,
     zone: &[u8],
     group: &[u8],
     holder: &[u8],
@@ -424,7 +424,7 @@ fn zone_declaration_in(
 
 /// What follows ZONE.
 #[tactic(auto, unfolding(crate::specs::Declaration::zone_line))]
-fn zone_line_in(greatest: u8, args: &[&[u8]]) -> Result<Declaration, Code>
+fn zone_line_in(greatest: ChannelId, args: &[&[u8]]) -> Result<Declaration, Code>
     ensures { result ≡ zone_line greatest (map (λ word. word.now) args.now) }
 {
     match args {
@@ -464,7 +464,7 @@ fn job_line_in(args: &[&[u8]]) -> Result<Declaration, Code>
 ///
 /// A first word that begins no job line, a wrong number of words, and a word in the place of START, ON, OFF or CONTOUR that is none of these are tried first (`UnknownJobLine`); then, from left to right, the numbers, names and lengths (`OutOfRange`).
 #[tactic(auto, unfolding(crate::specs::Declaration::declaration_of))]
-pub fn declaration_in(greatest: u8, kind: &[u8], args: &[&[u8]]) -> Result<Declaration, Code>
+pub fn declaration_in(greatest: ChannelId, kind: &[u8], args: &[&[u8]]) -> Result<Declaration, Code>
     ensures { result ≡ declaration_of greatest kind.now (map (λ word. word.now) args.now) }
 {
     if kind == b"CHANNEL".as_slice() {

@@ -33,7 +33,7 @@ impl Extent {
     /// How much a job of this version may have.
     pub fn of(version: u8) -> Extent
         ensures value { result ≡ extent_of version }
-        ensures channels { result.channels ≤ CHANNEL_LIMIT }
+        ensures channels { (1 ≤ result.channels) × (result.channels ≤ CHANNEL_LIMIT) }
         ensures axes { result.axes ≤ AXIS_LIMIT }
         ensures marks { result.marks ≤ MARK_LIMIT }
     {

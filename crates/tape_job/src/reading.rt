@@ -2,13 +2,16 @@
 ghost use Rattle.std.specs.Prelude.{◌≡◌, ◌≤◌, ◌==◌, map, length, IfOk, IfErr};
 ghost use Rattle.std.specs.List.{list_any};
 ghost use Rattle.job_lines.specs.Code.{refusal_code};
+ghost use Rattle.job_lines.specs.Extent.{extent_of};
 ghost use Rattle.block_scanner.specs.Scanned.{IsScanned};
 ghost use Rattle.nc_expressions.specs.NameTexts.{upper};
 ghost use Rattle.nc_syntax.specs.Blocks.{statement_of};
+ghost use Rattle.tape_job.specs.declared.draft.TheConstants.{VERSION};
 ghost use Rattle.tape_job.specs.Reading.{is_job_line, is_bad_byte, declaration_line, header_line, form_of, entry_reading, block_line, block_reading, with_shown, reading_of, GivesForm, Gives, reading_view, ReadingFits, FaultIsListed};
 
 use crate::draft::VERSION;
 use crate::lines::{before_comment, begins_with_percent, is_visible, text_in, upper_in, words_of};
+use axis_sets::ChannelId;
 use block_scanner::{ScanFault, Words, scan};
 use job_lines::{Code, Declaration, Extent, declaration_in, header_in};
 use nc_blocks::{Block, NameText};
@@ -90,6 +93,16 @@ fn has_bad_byte(text: &[u8]) -> bool
     text.iter().any(|byte| is_bad_byte(*byte))
 }
 
+/// The greatest channel that a job of the version that is read may have.
+fn greatest_channel() -> ChannelId
+    ensures { result ≡ (extent_of VERSION).channels }
+{
+    let extent = Extent::of(VERSION);
+    ChannelId {
+        number: extent.channels as u8,
+    }
+}
+
 /// What the words of a job line say.
 #[tactic(auto, unfolding(crate::specs::Reading::declaration_line))]
 fn declaration_line_in(words: &[&[u8]]) -> Result<Reading, Code>
@@ -98,7 +111,7 @@ fn declaration_line_in(words: &[&[u8]]) -> Result<Reading, Code>
 {
     match words {
         [kind, args @ ..] => {
-            let greatest = Extent::of(VERSION).channels as u8;
+            let greatest = greatest_channel();
             Ok(Reading::DeclarationLine(declaration_in(greatest, kind, args)?))
         }
         [] => Err(Code::UnknownJobLine),
