@@ -56,7 +56,8 @@ halves_empty n low high size other none = (
     | inl below ↦ sym (low_has n low high size m below) ∙ none m
     | inr past ↦ past_has low m (omega arith)
   ]),
-  (λ m. let there : n + m - n ≡ m = omega arith in ap (has high) (sym there) ∙ sym (high_has n low high size (n + m) (omega arith)) ∙ none (n + m)))
+  (λ m. let there : n + m - n ≡ m = omega arith in ap (has high) (sym there) ∙ sym (high_has n low high size (n + m) (omega arith)) ∙ none (n + m)),
+)
   where
     past_has : (s : List Bool) (m : ℕ) → length s ≤ m → has s m ≡ false
     past_has [] m past = refl

@@ -13,7 +13,12 @@ use zone_stretches::{boxes_in_pieces, motion_at, one_box, zone_numbered};
 
 /// The boxes by which a box of a zone would be compared at a depth.
 #[tactic(auto, unfolding(crate::specs::Clashes::boxes_at))]
-pub(crate) fn boxes_at(job: &Job, run: &Run, depth: u8, place: &Place) -> ArrayVec<Box3, PIECE_LIMIT>
+pub(crate) fn boxes_at(
+    job: &Job,
+    run: &Run,
+    depth: u8,
+    place: &Place,
+) -> ArrayVec<Box3, PIECE_LIMIT>
     requires fit { All (All IsFit) run.now.items }
     requires deep { depth ≤ DEPTH_LIMIT }
     ensures { result.items ≡ model.boxes_at job.now run.now place.now depth }

@@ -7,7 +7,11 @@ use arrayvec::ArrayVec;
 use swept_boxes::{Box3, PIECE_LIMIT};
 
 /// Whether two motions meet at a depth.
-fn meet_at(lefts: &[ArrayVec<Box3, PIECE_LIMIT>], rights: &[ArrayVec<Box3, PIECE_LIMIT>], depth: usize) -> bool
+fn meet_at(
+    lefts: &[ArrayVec<Box3, PIECE_LIMIT>],
+    rights: &[ArrayVec<Box3, PIECE_LIMIT>],
+    depth: usize,
+) -> bool
     requires left { depth < length lefts.now }
     requires right { depth < length rights.now }
     ensures { IsTrue result ↔ DoMeetAt (map (λ l. l.items) lefts.now) (map (λ l. l.items) rights.now) depth }

@@ -1,5 +1,5 @@
 -- Steps. The sequential run of channels whose steps are listed, and what comes of it.
-use Rattle.axis_sets.specs.declared.limits.TheConstants.{AXIS_LIMIT, CHANNEL_PLACES, MARK_LIMIT}
+use Rattle.axis_sets.specs.declared.limits.TheConstants.{AXIS_LIMIT, CHANNEL_PLACES, MARK_LIMIT, ZONE_PLACES}
 use Rattle.std.specs.Prelude.{ℕ, ℤ, zero, suc, ◌-◌, ◌==◌, Bool, List, [], ◌∷◌, map, filter, find, length, slice_index_or, Option, Some, None}
 use Rattle.std.specs.List.{range_with_len}
 use Rattle.std.specs.Option.{option_map_or}
@@ -28,7 +28,7 @@ abbrev pub axes : List ℕ → List Bool
 axes members = map (among members) (range_with_len 0 AXIS_LIMIT)
 
 abbrev pub zones : List ℕ → List Bool
-zones members = map (among members) (range_with_len 0 33)
+zones members = map (among members) (range_with_len 0 ZONE_PLACES)
 
 -- positions of these axes
 abbrev pub positions : List (ℕ × ℤ) → List (Option ℤ)

@@ -224,6 +224,16 @@ fn with_member<I: Member<N>, const N: usize>(set: Set<I, N>, member: I) -> Set<I
     set.with(member)
 }
 
+/// The set with a mark more.
+fn with_mark(set: MarkSet, mark: u8) -> MarkSet
+    requires stands { mark < MARK_LIMIT }
+    requires size { length set ≡ MARK_LIMIT }
+    ensures value { result ≡ slice_set set mark true }
+    ensures size { length result ≡ MARK_LIMIT }
+{
+    set.with(mark)
+}
+
 /// The marks of these arguments.
 #[tactic(auto, unfolding(crate::specs::Operands::marks_in))]
 pub(crate) fn marks_in<N: Names>(operands: &[Operand], parameters: &N) -> Result<MarkSet, u16>
@@ -233,7 +243,7 @@ pub(crate) fn marks_in<N: Names>(operands: &[Operand], parameters: &N) -> Result
     let mut marks = MarkSet::empty();
     for operand in operands {
         let mark = mark_in(operand, parameters)?;
-        marks = with_member(marks, mark);
+        marks = with_mark(marks, mark);
     }
     Ok(marks)
 }

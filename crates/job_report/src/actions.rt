@@ -11,8 +11,8 @@ use job_types::Job;
 use nc_blocks::NAME_LIMIT;
 use sync_types::{Action, Step};
 
-/// The most bytes of the members of a set.
-const MEMBERS_ROOM: usize = AXIS_LIMIT * (AXIS_ROOM + 1);
+/// The most bytes of the members of a set: of all marks, since all axes and all channels have fewer.
+const MEMBERS_ROOM: usize = MARK_LIMIT * (NUMBER_ROOM + 1);
 
 /// The most bytes of what an action speaks of, with its word.
 const ACTION_ROOM: usize = MEMBERS_ROOM + NUMBER_ROOM + 8;

@@ -10,10 +10,10 @@ use itoa::Buffer;
 use std::marker::Model;
 
 /// How many bytes a page has room for.
-pub(crate) const PAGE_ROOM: usize = 4096;
+pub(crate) const PAGE_ROOM: usize = 5120;
 
-/// The most bytes of a line: an arc of all axes has 618 at most.
-pub(crate) const LINE_ROOM: usize = 640;
+/// The most bytes of a line: an arc of all axes has 866 at most, and all marks with their word and line 1,140.
+pub(crate) const LINE_ROOM: usize = 1280;
 
 /// The most digits of a number of 32 bits.
 pub(crate) const NUMBER_ROOM: usize = 10;

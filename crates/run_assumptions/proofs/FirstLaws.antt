@@ -1,4 +1,5 @@
 -- The first remark about each number, one remark more.
+use Rattle.run_assumptions.specs.declared.firsts.TheConstants.{NUMBERS}
 use Rattle.std.proofs.Common.{◌≡◌, ◌∙◌, ℕ, ◌+◌, ◌<◌, ◌≤◌, ◌==◌, nat_lt, Bool, true, false, cond, List, [], ◌∷◌, ◌++◌, find, get_or, length, take, replicate, unwrap_or, Option, None, Some, refl, sym, ap, subst, arith, eq-eqb, eqb-true, get_or-set_other, get_or-set_same}
 use Rattle.std.proofs.Math.ListN.{set, length-set}
 use Rattle.std.proofs.lemmas.Bool.Decides.{nat_tests}
@@ -47,13 +48,13 @@ module _ (key : Remark → Option ℕ) (xs : List Remark) (x : Remark) where
       ∙ sym (find-push (λ (r : Remark). is_number number (key r)) xs x)
 
   module _ (table : List (Option Remark)) (are : AreFirsts key xs table) where
-    same : ((number : ℕ) → number < 65536 → is_number number (key x) ≡ false) → AreFirsts key (xs ++ x ∷ []) table
+    same : ((number : ℕ) → number < NUMBERS → is_number number (key x) ≡ false) → AreFirsts key (xs ++ x ∷ []) table
     same differ = record { places = are.places; each = λ number below. are.each number below ∙ other number (differ number below) }
 
     put : (k : ℕ) → key x ≡ Some k → k < length table → AreFirsts key (xs ++ x ∷ []) (set table k (Some (unwrap_or (get_or table k None) x)))
     put k is within = record { places = length-set table k (Some (unwrap_or (get_or table k None) x)) ∙ are.places; each = λ number below. by_number number below (k == number) refl }
       where
-        by_number : (number : ℕ) → number < 65536 → (t : Bool) → (k == number) ≡ t
+        by_number : (number : ℕ) → number < NUMBERS → (t : Bool) → (k == number) ≡ t
             → get_or (set table k (Some (unwrap_or (get_or table k None) x))) number None ≡ first_with key number (xs ++ x ∷ [])
         by_number number below true agrees =
             let same_number : k ≡ number = eqb-true k number agrees in
@@ -100,8 +101,8 @@ none_only is_like others None is = refl
 none_only is_like others (Some x) is = absurd (others x is)
 
 -- of none
-pub none_of : (key : Remark → Option ℕ) (table : List (Option Remark)) → table ≡ replicate 65536 None → AreFirsts key [] table
+pub none_of : (key : Remark → Option ℕ) (table : List (Option Remark)) → table ≡ replicate NUMBERS None → AreFirsts key [] table
 none_of key table is = record {
-  places = ap length is ∙ length-replicate {A = Option Remark} 65536 None;
-  each = λ number below. ap (λ (t : List (Option Remark)). get_or t number None) is ∙ get_or-replicate {A = Option Remark} 65536 number None None below;
+  places = ap length is ∙ length-replicate {A = Option Remark} NUMBERS None;
+  each = λ number below. ap (λ (t : List (Option Remark)). get_or t number None) is ∙ get_or-replicate {A = Option Remark} NUMBERS number None None below;
 }

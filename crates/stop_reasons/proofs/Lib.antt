@@ -1,3 +1,4 @@
 pub mod FirstLaws
 pub mod TableLaws
 pub mod TextLaws
+pub mod CountedLaws

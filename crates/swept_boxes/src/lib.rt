@@ -8,9 +8,9 @@ mod sweeps;
 
 use arrayvec::ArrayVec;
 use axis_sets::{AXIS_LIMIT, AxisId};
+pub use limits::PIECE_LIMIT;
 use micro_units::Um;
 use std::marker::Model;
-pub use limits::PIECE_LIMIT;
 pub use sweeps::{Pieces, cover, pieces_of};
 
 /// A range in micrometres for each of some axes, low and high bound included.
