@@ -27,3 +27,15 @@ pub cleared : (own marks some : Bool) → some ≡ true → (own && not (own && 
 cleared own true some on = refl
 cleared true false some on = rw on refl
 cleared false false some on = refl
+
+-- a set without a member
+none_of : (p : ℕ → Bool) (xs : List ℕ) → ((x : ℕ) → p x ≡ false) → filter p xs ≡ []
+none_of p [] off = refl
+none_of p (x ∷ xs) off = rw (off x) (none_of p xs off)
+
+pub no_member : (s : List Bool) → IsEmpty s → list_any (λ n. true) (members_of s) ≡ false
+no_member s empty = ap (λ (xs : List ℕ). list_any (λ n. true) xs) (none_of (has s) (range_with_len 0 (length s)) empty)
+
+pub all_cleared : (own marks some : Bool) → marks ≡ false → some ≡ false → own ≡ (own && not (own && not (marks || not some)))
+all_cleared true marks some off none = rw (off, none) refl
+all_cleared false marks some off none = refl

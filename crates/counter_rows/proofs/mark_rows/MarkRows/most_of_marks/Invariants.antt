@@ -5,8 +5,8 @@ use Rattle.counter_rows.specs.MarkRows.{row_in}
 use Rattle.counter_rows.specs.Rows.{top, count_of}
 use Rattle.counter_rows.proofs.mark_rows.MarkRows.most_of_marks.Given as goal
 
-abbrev pub invariant-loop-_turn : goal.invariant-loop-_turn
-invariant-loop-_turn l = record {
+abbrev pub invariant-loop-turn : goal.invariant-loop-turn
+invariant-loop-turn l = record {
   sized : 0 < l._turn → length l.rest ≡ MARK_LIMIT;
   low : (m : ℕ) → has l.rest m ≡ true → l._turn ≤ m;
   most : (c : ℕ) → max (count_of l.row c) (top (λ m. count_of (row_in l.self m l.channel) c) (members_of l.rest)) ≡ max (count_of l.fn.start c) (top (λ m. count_of (row_in l.self m l.channel) c) (members_of l.marks));

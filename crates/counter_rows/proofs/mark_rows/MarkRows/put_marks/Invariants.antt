@@ -4,8 +4,8 @@ use Rattle.axis_sets.specs.declared.limits.TheConstants.{MARK_LIMIT}
 use Rattle.counter_rows.specs.MarkRows.{row_in}
 use Rattle.counter_rows.proofs.mark_rows.MarkRows.put_marks.Given as goal
 
-abbrev pub invariant-loop-_turn : goal.invariant-loop-_turn
-invariant-loop-_turn l = record {
+abbrev pub invariant-loop-turn : goal.invariant-loop-turn
+invariant-loop-turn l = record {
   size : length l.self-inside.rows.items ≡ MARK_LIMIT;
   sized : 0 < l._turn → length l.rest ≡ MARK_LIMIT;
   low : (m : ℕ) → has l.rest m ≡ true → l._turn ≤ m;

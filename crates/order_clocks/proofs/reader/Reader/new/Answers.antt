@@ -7,11 +7,11 @@ use Rattle.order_clocks.proofs.reader.Reader.new.Goals as goal
 pub returns : goal.returns
 returns c = λ b whole. record {
   entries = whole.entries;
-  sound = record { holds = λ d. rw (c.new.ensures.holds d) (record {}); none = c.new.ensures.holds 0 };
+  sound = record { holds = λ d. rw (c.new-2.ensures.holds d) (record {}); none = c.new-2.ensures.holds 0 };
   alarms = c.stops_of.ensures b whole;
   keeps = rw (board_zero (moves_in c.args.entries.now) b) (record {
-    marks = λ d m. c.new.ensures.marks d m ∙ sym (whole.marks d m);
-    holds = λ d. ap wait_shown (c.new.ensures.holds d) ∙ sym (fresh_waits (b.state d) (whole.fresh d));
+    marks = λ d m. c.new-2.ensures.marks d m ∙ sym (whole.marks d m);
+    holds = λ d. ap wait_shown (c.new-2.ensures.holds d) ∙ sym (fresh_waits (b.state d) (whole.fresh d));
   });
   shows = record { past = c.in_ok-times.ensures.past; last = c.in_ok-times.ensures.last };
 }

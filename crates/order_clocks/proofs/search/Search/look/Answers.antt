@@ -7,11 +7,11 @@ use Rattle.order_clocks.proofs.FirstLaws.{first_more, first_still}
 use Rattle.order_clocks.proofs.TracelessLaws.{traceless_least, traceless_places}
 use Rattle.order_clocks.proofs.search.Search.look.Goals as goal
 
-pub returns-else-is_traceless : goal.returns-else-is_traceless
-returns-else-is_traceless c = λ b reader read searched ok.
+pub returns-in_ok-self-in-None : goal.returns-in_ok-self-in-None
+returns-in_ok-self-in-None c = λ b reader read searched ok.
     let last = searched.last c.in-None.is in
     record {
-      first = first_more b (moves_in c.args.entries.now) c.args.place c.in_ok-self.race (rw c.in-None.is at searched.first) (c.in_ok-self.ensures b reader read last c.requires.place);
+      first = first_more b (moves_in c.args.entries.now) c.args.place c.in_ok-self-in-None.field-0 (rw c.in-None.is at searched.first) (c.in_ok-self-in-None.ensures b reader read last c.requires.place);
       last = λ none. c.note.ensures (course_of b (moves_in c.args.entries.now)) (tracks_of b (moves_in c.args.entries.now)) c.args.place read.known.is read.known.tracked read.known.are last;
     }
 
