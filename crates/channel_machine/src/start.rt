@@ -118,11 +118,11 @@ fn first_zone(zone: &ZoneLine) -> (ZoneId, AxisSet, Option<ChannelId>, bool)
 }
 
 /// What stands of a zone, if the job has it.
-fn zone_entry(job: &Job, number: u8) -> Option<(ZoneId, AxisSet, Option<ChannelId>, bool)>
-    ensures { result ≡ model.zone_entry job.now number }
+fn zone_entry(job: &Job, zone: ZoneId) -> Option<(ZoneId, AxisSet, Option<ChannelId>, bool)>
+    ensures { result ≡ model.zone_entry job.now zone }
 {
-    match job.zone_line(ZoneId { number }) {
-        Some(zone) => Some(first_zone(&zone)),
+    match job.zone_line(zone) {
+        Some(line) => Some(first_zone(&line)),
         None => None,
     }
 }
@@ -134,7 +134,7 @@ fn first_zones(job: &Job) -> ArrayVec<(ZoneId, AxisSet, Option<ChannelId>, bool)
 {
     let mut zones = ArrayVec::new();
     for index in 0..ZONE_LIMIT as u8 {
-        if let Some(zone) = zone_entry(job, index + 1) {
+        if let Some(zone) = zone_entry(job, ZoneId { number: index + 1 }) {
             zones.push(zone);
         }
     }

@@ -121,11 +121,11 @@ fn motion_words(moves: bool) -> &'static str
 
 /// Writes where a zone is declared.
 #[tactic(auto, unfolding(crate::specs::Words::declared_words))]
-fn put_declared(text: &mut Text, told: &Told, number: u8)
-    ensures { text.new ≡ text.old ++ model.declared_words told.now.lines.now told.now.job.now number }
+fn put_declared(text: &mut Text, told: &Told, zone: ZoneId)
+    ensures { text.new ≡ text.old ++ model.declared_words told.now.lines.now told.now.job.now zone }
 {
-    if let Some(zone) = told.job.zone_line(ZoneId { number }) {
-        put_block(text, told, zone.line);
+    if let Some(line) = told.job.zone_line(zone) {
+        put_block(text, told, line.line);
     }
 }
 
@@ -135,7 +135,7 @@ pub(crate) fn put_name(text: &mut Text, told: &Told, name: &PlaceName)
     ensures { text.new ≡ text.old ++ model.name_words told.now.lines.now told.now.job.now name.now }
 {
     if name.line == 0 {
-        put_declared(text, told, name.zone.number);
+        put_declared(text, told, name.zone);
     } else {
         put_block(text, told, name.line);
     }

@@ -75,11 +75,11 @@ fn say_moving(text: &mut Text, told: &Told, place: &Place, motion: &Motion)
 
 /// Says where a zone is declared.
 #[tactic(auto, unfolding(crate::specs::Places::declared_text))]
-fn say_declared(text: &mut Text, told: &Told, number: u8)
-    ensures { text.new ≡ text.old ++ model.declared_text told.now.lines.now told.now.job.now number }
+fn say_declared(text: &mut Text, told: &Told, zone: ZoneId)
+    ensures { text.new ≡ text.old ++ model.declared_text told.now.lines.now told.now.job.now zone }
 {
-    if let Some(zone) = told.job.zone_line(ZoneId { number }) {
-        say_block(text, told, zone.line);
+    if let Some(line) = told.job.zone_line(zone) {
+        say_block(text, told, line.line);
     }
 }
 
@@ -120,7 +120,7 @@ fn say_free(text: &mut Text, told: &Told, place: &Place)
     ensures { text.new ≡ text.old ++ model.free_text told.now.lines.now told.now.job.now place.now }
 {
     if place.name.line == 0 {
-        say_declared(text, told, place.name.zone.number);
+        say_declared(text, told, place.name.zone);
     } else {
         say_block(text, told, place.name.line);
     }

@@ -1,5 +1,5 @@
 -- Meaning. The lines of a channel: what it did, in order, and how it has stopped.
-use Rattle.std.specs.Prelude.{⊤, ℕ, ◌==◌, Bool, false, if◌then◌else◌, List, [], ◌++◌, filter, slice_get, codes, Option, None, Some, unwrap_or}
+use Rattle.std.specs.Prelude.{⊤, ℕ, ◌==◌, Bool, false, if◌then◌else◌, List, [], ◌++◌, filter, slice_index_or, codes, Option, None, Some}
 use Rattle.std.specs.Fmt.{decimal}
 use Rattle.std.specs.List.{enumerate_from, filter_map, flat_map, last_or, range_with_len}
 use Rattle.axis_sets.specs.declared.limits.TheConstants.{CHANNEL_LIMIT}
@@ -38,7 +38,7 @@ is_at place (Some silent) = silent == place
 
 -- what the channel of an entry did before its step
 abbrev pub items_at : RunView → ℕ → List Item
-items_at run place = unwrap_or (slice_get run.items place) []
+items_at run place = slice_index_or run.items place []
 
 -- the trace lines of an entry of the channel: what it did before its step, and the step
 unfoldable pub entry_lines : JobView → RunView → Option ℕ → ℕ × EntryView → List ℕ

@@ -1,5 +1,5 @@
 -- Runs in which each channel does the same, and stops alike, have one report.
-use Rattle.std.proofs.Common.{◌≡◌, ◌∙◌, ℕ, ◌+◌, ◌==◌, ◌<◌, Bool, true, false, ◌&&◌, if◌then◌else◌, List, [], ◌∷◌, ◌++◌, length, slice_get, Option, None, Some, unwrap_or, filter_map, flat_map, refl, sym, ap, ap₂, arith, append_assoc, length-append, eq-eqb}
+use Rattle.std.proofs.Common.{◌≡◌, ◌∙◌, ℕ, ◌+◌, ◌==◌, ◌<◌, Bool, true, false, ◌&&◌, if◌then◌else◌, List, [], ◌∷◌, ◌++◌, length, slice_get, slice_index_or, Option, None, Some, filter_map, flat_map, refl, sym, ap, ap₂, arith, append_assoc, length-append, eq-eqb}
 use Rattle.std.proofs.lemmas.Bool.Decides.{nat_tests}
 use Rattle.std.specs.Option.{option_map_or}
 use mathlib.Core.Path.{fun_ext}
@@ -46,15 +46,15 @@ abbrev AreFrom : RunView → ℕ → List (List Item) → Type 0
 AreFrom run k [] = Unit {0}
 AreFrom run k (items ∷ rest) = (items_at run k ≡ items) × AreFrom run (k + 1) rest
 
-get_there : {X : Type 0} (front : List X) (x : X) (rest : List X) → slice_get (front ++ x ∷ rest) (length front) ≡ Some x
-get_there [] x rest = refl
-get_there (y ∷ front) x rest = get_there front x rest
+get_there : {X : Type 0} (front : List X) (x : X) (rest : List X) (d : X) → slice_index_or (front ++ x ∷ rest) (length front) d ≡ x
+get_there [] x rest d = refl
+get_there (y ∷ front) x rest d = get_there front x rest d
 
 are_from : (run : RunView) (front rest : List (List Item)) (k : ℕ) → run.items ≡ front ++ rest → length front ≡ k → AreFrom run k rest
 are_from run front [] k all place = tt
 are_from run front (items ∷ rest) k all place = (
-  ap (λ (o : Option (List Item)). unwrap_or o [])
-      (ap (λ (xs : List (List Item)). slice_get xs k) all ∙ ap (λ (n : ℕ). slice_get (front ++ items ∷ rest) n) (sym place) ∙ get_there front items rest),
+  ap (λ (xs : List (List Item)). slice_index_or xs k []) all
+      ∙ ap (λ (n : ℕ). slice_index_or (front ++ items ∷ rest) n []) (sym place) ∙ get_there front items rest [],
   are_from run (front ++ items ∷ []) rest (k + 1) (all ∙ sym (append_assoc front (items ∷ []) rest)) (length-append front (items ∷ []) ∙ omega (arith, place)),
 )
 
