@@ -1,7 +1,7 @@
 -- What a step changes, on the board as in what is kept.
-use Rattle.std.proofs.Common.{eqb-true, ◌≡◌, ℕ, ℤ, ◌<◌, ◌==◌, ◌&&◌, ◌||◌, not, ◌↔◌, Bool, true, false, List, [], ◌∷◌, map, Option, Some, None, is_some, if◌then◌else◌, slice_index_or, refl, sym, ap, ap₂, ◌∙◌}
+use Rattle.std.proofs.Common.{eqb-true, ◌≡◌, ℕ, ℤ, ◌<◌, ◌==◌, ◌&&◌, ◌||◌, not, ◌↔◌, Bool, true, false, cond, List, [], ◌∷◌, filter, length, map, Option, Some, None, is_some, if◌then◌else◌, slice_index_or, refl, sym, ap, ap₂, ◌∙◌}
 use Rattle.std.proofs.Math.Path.{fun_ext}
-use Rattle.std.specs.List.{list_any}
+use Rattle.std.specs.List.{list_any, range_with_len}
 use Rattle.axis_exchange.specs.Owners.{axis_state, free_at, is_owned_by}
 use Rattle.axis_exchange.specs.declared.AxisState.{AxisState}
 use Rattle.axis_exchange.specs.declared.AxisState.TheVariants.{Owned, Free}
@@ -261,5 +261,31 @@ marks_cleared marks c action named is some d m = each (d == c) refl
     each true here =
         ap (λ (n : ℕ). has_mark marks n m && not (has named m)) (eqb-true d c here)
         ∙ ap (λ (t : Bool). has_mark marks c m && t) (lowered (has named m) (list_any (λ n. true) (members_of named)) some)
+        ∙ ap (λ (a : Action). marks_after (has_mark marks c) a m) (sym is)
+    each false other = refl
+
+-- CLEARM that names no mark
+pub all_cleared : (marks : List (List Bool)) (c : ℕ) (action : Action) (named : List Bool) → action ≡ ClearM named → IsEmpty named
+    → (d m : ℕ) → (if d == c then false else has_mark marks d m) ≡ (if d == c then marks_after (has_mark marks c) action m else has_mark marks d m)
+all_cleared marks c action named is empty d m = each (d == c) refl
+  where
+    kept_none : (xs : List ℕ) → filter (has named) xs ≡ []
+    kept_none [] = refl
+    kept_none (x ∷ xs) = ap (λ (b : Bool). cond b (x ∷ filter (has named) xs) (filter (has named) xs)) (empty x) ∙ kept_none xs
+
+    none : list_any (λ n. true) (members_of named) ≡ false
+    none = ap (list_any (λ n. true)) (kept_none (range_with_len 0 (length named)))
+
+    lowered : (a b t : Bool) → t ≡ false → false ≡ (a && not (b || not t))
+    lowered a b t off = by a b ∙ ap (λ (t : Bool). a && not (b || not t)) (sym off)
+      where
+        by : (a b : Bool) → false ≡ (a && not (b || true))
+        by true true = refl
+        by true false = refl
+        by false b = refl
+
+    each : (b : Bool) → (d == c) ≡ b → (if b then false else has_mark marks d m) ≡ (if b then marks_after (has_mark marks c) action m else has_mark marks d m)
+    each true here =
+        lowered (has_mark marks c m) (has named m) (list_any (λ n. true) (members_of named)) none
         ∙ ap (λ (a : Action). marks_after (has_mark marks c) a m) (sym is)
     each false other = refl

@@ -1,5 +1,5 @@
 -- Who goes on, by what is kept of each channel.
-use Rattle.std.proofs.Common.{inl, inr, ◌≡◌, ℕ, ◌+◌, ◌-◌, ◌<◌, ◌≤◌, ◌==◌, ◌&&◌, ◌||◌, Bool, true, false, cond, List, [], ◌∷◌, ◌++◌, map, filter, length, append_assoc, Option, Some, None, is_some, suc, if◌then◌else◌, refl, sym, ap, ◌∙◌, arith}
+use Rattle.std.proofs.Common.{inl, inr, ◌≡◌, ℕ, ◌+◌, ◌-◌, ◌<◌, ◌≤◌, ◌==◌, ◌&&◌, ◌||◌, Bool, true, false, cond, List, [], ◌∷◌, ◌++◌, map, filter, length, append_assoc, append-nil, Option, Some, None, is_some, suc, if◌then◌else◌, refl, sym, ap, ◌∙◌, arith}
 use Rattle.std.proofs.lemmas.Bool.{cases_Bool, cases_eq, cases_lt, eq-eqb, ne_eqb}
 use Rattle.std.specs.List.{list_all, range_with_len}
 use Rattle.axis_exchange.specs.Owners.{axis_state, may_take, may_take_all}
@@ -15,7 +15,7 @@ use Rattle.coord_core.specs.declared.activities.Activity.TheVariants.{AtAxes}
 use Rattle.coord_core.specs.declared.table.Table.{Table}
 use Rattle.set_laws.proofs.MemberLaws.{has-below, list_all-members_of, list_all-at_member}
 use Rattle.sync_types.proofs.BoardTests.{no_truth}
-use Rattle.sync_types.specs.Boards.{is_free, is_this, owner_of, owns}
+use Rattle.sync_types.specs.Boards.{channel_numbers, is_free, is_this, owner_of, owns}
 use Rattle.sync_types.specs.GoingOn.{Going, go_of, axes_asked, waits_for_axes, can_take}
 use Rattle.sync_types.specs.declared.runs.Go.{Go}
 
@@ -40,6 +40,18 @@ pub goes_as_before : (going : ℕ → Going) (p : ℕ → Bool) (n : ℕ) (whole
 goes_as_before going p n whole goes below off before =
     let rest : List ℕ = filter p (range_with_len (n + 1) (CHANNEL_PLACES - (n + 1))) in
     before ∙ ap (λ (cs : List ℕ). goes ++ goes_of going cs) (next_kept p n below ∙ ap (λ (b : Bool). cond b (n ∷ rest) rest) off)
+
+-- the members of a set of channels are those that channels may have as numbers
+pub members_are : (s : List Bool) → length s ≡ CHANNEL_PLACES → has s 0 ≡ false → members_of s ≡ filter (has s) channel_numbers
+members_are s size none =
+    ap (λ (n : ℕ). filter (has s) (range_with_len 0 n)) size
+    ∙ ap (λ (b : Bool). cond b (0 ∷ filter (has s) channel_numbers) (filter (has s) channel_numbers)) none
+
+-- the goes of all channels of a set, after the last
+pub goes_all : (going : ℕ → Going) (s : List Bool) (goes : List Go) → members_of s ≡ filter (has s) channel_numbers
+    → goes_of going (filter (has s) channel_numbers) ≡ goes ++ goes_of going (filter (has s) (range_with_len CHANNEL_PLACES (CHANNEL_PLACES - CHANNEL_PLACES)))
+    → goes ≡ goes_of going (members_of s)
+goes_all going s goes members all = sym (append-nil goes) ∙ sym all ∙ ap (λ (cs : List ℕ). goes_of going cs) (sym members)
 
 -- a channel may take what is free or its own, on the board as in the owners
 may_alike : (s : Option AxisState) (c : ℕ) → is_some s ≡ true → may_take s c ≡ (is_free (ownership_in s) || is_this (owner_of (ownership_in s)) c)

@@ -4,7 +4,7 @@ use Rattle.axis_sets.specs.Sets.{has}
 use Rattle.coord_core.specs.Tables.{board_in}
 use Rattle.std.specs.List.{range_with_len}
 use Rattle.std.proofs.Common.{filter, ◌+◌, ◌-◌}
-use Rattle.coord_core.proofs.Rules.{goes_of, goes_more, goes_as_before, written_more, written_above, unwritten_more, written_all}
+use Rattle.coord_core.proofs.Rules.{goes_of, goes_more, goes_as_before, written_more, written_above, unwritten_more, written_all, members_are, goes_all}
 use Rattle.coord_core.specs.declared.activities.Activity.TheVariants.{Running}
 use Rattle.sync_types.specs.declared.Grant.{Grant}
 use Rattle.sync_types.specs.declared.runs.Go.{Go}
@@ -40,3 +40,9 @@ loop-number-preserved c = elim c.if-contains.branch [
 pub returns-clause-channels : goal.returns-clause-channels
 returns-clause-channels c =
     written_all c.args.channels.now c.loop-number.channels c.args.named (λ d. Running (start_grant (board_in c.args.table.now c.args.channels.now) d)) c.loop-number.number (omega arith) c.requires.size c.loop-number.invariant.2 c.loop-number.invariant.3
+
+pub returns-clause-goes : goal.returns-clause-goes
+returns-clause-goes c =
+    let all : c.loop-number.number ≡ CHANNEL_PLACES = omega arith in
+    goes_all (going_of_start (board_in c.args.table.now c.args.channels.now)) c.args.named c.loop-number.goes.items
+    (members_are c.args.named c.requires.size c.requires.none) (rw all at c.loop-number.invariant.1)
