@@ -4,7 +4,7 @@ use Rattle.atomic_table.specs.Table.{Final, Seen}
 use Rattle.axis_sets.specs.declared.limits.TheConstants.{CHANNEL_PLACES}
 use Rattle.coord_core.specs.Histories.{History, history_of}
 use Rattle.coord_core.specs.declared.locked.Locked.{Locked}
-use Rattle.std.proofs.Common.{◌||◌, All, Bool, List, Option, Some, ap, arith, false, filter, length, map, refl, subst, suc, sym, take, true, zero, ℕ, ◌≡◌, ◌+◌, ◌<◌, ◌≤◌, [], ◌∷◌, ◌++◌, ◌∙◌, ◌-◌, if◌then◌else◌}
+use Rattle.std.proofs.Common.{◌||◌, All, Bool, List, Option, Some, ap, append-nil, arith, false, filter, length, map, refl, subst, suc, sym, take, true, zero, ℕ, ◌≡◌, ◌+◌, ◌<◌, ◌≤◌, [], ◌∷◌, ◌++◌, ◌∙◌, ◌-◌, if◌then◌else◌}
 use Rattle.std.specs.List.{list_any, range_with_len}
 use Rattle.sync_types.specs.Starts.{has_channel}
 use Rattle.sync_types.specs.Views.{StartView}
@@ -52,6 +52,12 @@ has_next start n below there = one_fewer start n below ∙ there_by (has_channel
 
 pub has_no_next : (start : StartView) (n : ℕ) → n < CHANNEL_PLACES → has_channel start n ≡ false → channels_from start n ≡ channels_from start (n + 1)
 has_no_next start n below missing = one_fewer start n below ∙ missing_by (has_channel start n) n (channels_from start (n + 1)) missing
+
+-- past the last channel none is left to cut
+pub all_cut : (t : TableId) (start : StartView) (passes : List TicketPassView)
+    → passes ++ map (first_pass t start) (channels_from start CHANNEL_PLACES) ≡ map (first_pass t start) (channels_from start 1)
+    → passes ≡ map (first_pass t start) (channels_of start)
+all_cut t start passes is = sym (append-nil passes) ∙ is
 
 -- ---- all passes are back
 

@@ -4,7 +4,7 @@ use Rattle.job_report.specs.Actions.{step_line}
 use Rattle.job_report.specs.Channels.{entry_lines, is_at, items_at}
 use Rattle.job_report.specs.Motions.{item_line}
 use Rattle.job_report.specs.Pages.{Prints, Puts, stage}
-use Rattle.job_report.proofs.PageLemmas.{Puts-then}
+use Rattle.job_report.proofs.PageLemmas.{Puts-cut, Puts-then}
 use Rattle.job_report.proofs.channels.put_entry.Goals as goal
 use Rattle.sync_types.specs.Views.{EntryView}
 use Rattle.sync_types.specs.declared.Step.{Step}
@@ -22,3 +22,9 @@ returns-clause-text g c =
     let line : Puts between after c.put_step.result (step_line c.args.job.now c.args.entry.now.step) =
     subst (λ (s : Step). Puts between after c.put_step.result (step_line c.args.job.now s)) step c.put_step.ensures.text in
     rw told (Puts-then before between after c.put_step.result _ _ items line)
+
+pub returns-in_err-put_items-clause-text : goal.returns-in_err-put_items-clause-text
+unfolding entry_lines
+returns-in_err-put_items-clause-text g c =
+    Puts-cut _ _ _ (flat_map (item_line c.args.job.now) (items_at c.args.run.now c.args.place)) _ c.from_residual.ensures.0
+    (rw c.items_at.ensures at c.in_err-put_items.ensures.text)
