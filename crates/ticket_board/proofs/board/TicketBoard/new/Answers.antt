@@ -16,4 +16,4 @@ pub returns-clause-passes : goal.returns-clause-passes
 returns-clause-passes c =
     let all : c.loop-number.number ≡ CHANNEL_PLACES = omega arith in
     all_cut c.in_ok-table.table.shared.table_id c.args.start.now c.loop-number.passes.items (rw all at c.loop-number.invariant.2)
-    ∙ ap (λ (s : StartView). map (first_pass c.in_ok-table.table.shared.table_id s) (channels_of s)) (sym c.in_ok-table.ensures.1.1.1.1)
+    ∙ ap (λ (s : StartView). map (first_pass c.in_ok-table.table.shared.table_id s) (channels_of s)) (sym c.in_ok-table.ensures.4)
