@@ -9,6 +9,7 @@ use explain_lines::{Lines, block_number};
 use explain_places::{Told, program_name, say_channel};
 use explain_views::{Tile, Track, along, put_shown};
 use growing_text::Text;
+use job_types::ZoneLine;
 use sync_types::PlaceName;
 
 /// Up to how many bytes of a line or of a comment are shown at each place, so that a drawing stays small.
