@@ -8,6 +8,7 @@ use Rattle.explain_lines.specs.Lines.{line_text}
 use Rattle.explain_lines.specs.Numbers.{block_number_of}
 use Rattle.job_types.specs.Job.{JobView}
 use Rattle.job_types.specs.Zones.{zone_line}
+use Rattle.job_types.specs.declared.job.ZoneLine.{ZoneLine}
 use Rattle.explain_views.specs.Marks.{along}
 use Rattle.explain_views.specs.Shown.{shown_text}
 use Rattle.explain_views.specs.declared.shapes.Tile.{Tile}
