@@ -1,5 +1,6 @@
 -- Steps that leave nothing, or mind nothing, have no race.
-use Rattle.std.proofs.Common.{◌≡◌, ℕ, ◌<◌, ◌==◌, ◌&&◌, ◌||◌, not, Bool, true, false, if◌then◌else◌, List, [], Option, Some, None, refl, sym, ap, subst, ◌∙◌, arith}
+use Rattle.axis_sets.specs.declared.limits.TheConstants.{CHANNEL_LIMIT}
+use Rattle.std.proofs.Common.{◌-◌, ◌≡◌, ℕ, ◌<◌, ◌==◌, ◌&&◌, ◌||◌, not, Bool, true, false, if◌then◌else◌, List, [], Option, Some, None, refl, sym, ap, subst, ◌∙◌, arith}
 use Rattle.std.proofs.lemmas.Bool.{true≢false}
 use Rattle.order_clocks.specs.Chains.{IsIn}
 use Rattle.order_clocks.specs.Happenings.{Happening, happening_at, going_of, of_going, waits_for, asks_for}
@@ -129,7 +130,7 @@ unfolding state_after_action
 action_stays b c step d other off = rw other (rw off refl)
 
 nobody_takes : (b : Board) → next_taker (after_goes b) ≡ None → (after_goings b).state ≡ state_after_goes b
-nobody_takes b none = ap (λ (o : Option ℕ). (takings_from (takings 7) (after_goes b) o).board.state) none
+nobody_takes b none = ap (λ (o : Option ℕ). (takings_from (takings (CHANNEL_LIMIT - 1)) (after_goes b) o).board.state) none
 
 pub stays : (b : Board) (c : ℕ) (step : Step) (d : ℕ) → (after_own_part b c step).state ≡ state_after_action (after_effects b c step) c step → next_taker (after_goes (after_own_part b c step)) ≡ None
     → among (goers_at_once (after_own_part b c step)) d ≡ false → (d == c) ≡ false → among (channels_to_start step.action) d ≡ false → (after_step b c step).state d ≡ b.state d

@@ -1,4 +1,5 @@
 -- Law. What comes of channels that meet at marks.
+use Rattle.axis_sets.specs.declared.limits.TheConstants.{MARK_LIMIT}
 use Rattle.std.specs.Prelude.{◌≡◌, true, [], ◌∷◌, Some}
 use Rattle.coordination_tests.specs.Play.{outcome_of, channels, marks, at_line, acts, alarm}
 use Rattle.sync_types.specs.Views.{StartView}
@@ -120,7 +121,7 @@ EveryMarkLowered = outcome_of one_channel
 -- a mark that there is not comes first, then a channel that there is not
 abbrev pub MarkOutOfRange : Type 0
 MarkOutOfRange = outcome_of one_channel
-    ((at_line 9 (WaitM 10 (channels (3 ∷ []))) ∷ at_line 10 End ∷ []) ∷ [])
+    ((at_line 9 (WaitM MARK_LIMIT (channels (3 ∷ []))) ∷ at_line 10 End ∷ []) ∷ [])
     ≡ record {
       acts = acts 1 [] ∷ [];
       ends = Alarmed (alarm 25 9) ∷ [];
