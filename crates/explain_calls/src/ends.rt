@@ -1,4 +1,8 @@
 //! What a call reads from and writes to, and what it says on standard error.
+ghost use Rattle.std.specs.Prelude.{◌≡◌};
+ghost use Rattle.exit_statuses.specs.declared.Status.TheVariants as statuses;
+ghost use Rattle.explain_calls.specs.Faults.{status_of_fault};
+
 use crate::files::InputFault;
 use exit_statuses::Status;
 use explain_joins::OtherPart;
@@ -48,19 +52,25 @@ impl<R> Ends<'_, R> {
     }
 
     /// Says which forms the words of a call have, and gives the status of words that are none of them.
-    pub fn say_usage(&self) -> Status {
+    pub fn say_usage(&self) -> Status
+        ensures { result ≡ statuses.Usage }
+    {
         self.say(USAGE.as_bytes());
         Status::Usage
     }
 
     /// Says that memory was too short, and gives the status of that.
-    pub fn say_no_memory(&self) -> Status {
+    pub fn say_no_memory(&self) -> Status
+        ensures { result ≡ statuses.NoMemory }
+    {
         self.say(b"explain: out of memory\n");
         Status::NoMemory
     }
 
     /// Says that an input is too long.
-    pub(crate) fn say_too_long(&self, name: &str) -> Status {
+    pub(crate) fn say_too_long(&self, name: &str) -> Status
+        ensures { result ≡ statuses.TooLong }
+    {
         let mut text = self.line_on(name);
         text.say(": more than ");
         text.number(INPUT_LIMIT as u64);
@@ -70,7 +80,9 @@ impl<R> Ends<'_, R> {
     }
 
     /// Says what is wrong with a file.
-    pub(crate) fn say_fault(&self, name: &str, fault: &InputFault) -> Status {
+    pub(crate) fn say_fault(&self, name: &str, fault: &InputFault) -> Status
+        ensures { result ≡ status_of_fault fault.now }
+    {
         match fault {
             InputFault::Failed(error) => {
                 let _ = eprintln!(self.error; "explain: {name}: {error}");
