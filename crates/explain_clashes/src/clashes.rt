@@ -12,7 +12,7 @@ use crate::pieces::boxes_at;
 use crate::ways::way_for;
 use arrayvec::ArrayVec;
 use explain_places::{Meeting, Place};
-use explain_reach::{Way, common_box, most_near, parting_depth};
+use explain_reach::{Way, common_box, most_near, parting_depth, room_of};
 use job_types::Job;
 use swept_boxes::{Box3, PIECE_LIMIT};
 use sync_types::Run;
@@ -29,14 +29,6 @@ pub struct Clash {
     pub margin: Option<i64>,
     /// The least DEPTH above that of the job with which they would not meet; none where they meet with each.
     pub depth: Option<u8>,
-}
-
-/// The greatest growth at both ends of both boxes by which boxes that reach so far into each other are apart.
-fn room_of(reach: i64) -> i64
-    ensures apart { (reach +ℤ (result *ℤ pos 2)) <ℤ pos 0 }
-    ensures most { pos 0 ≤ℤ (reach +ℤ ((result +ℤ pos 1) *ℤ pos 2)) }
-{
-    (-1 - reach).div_euclid(2)
 }
 
 /// The greatest margin with which boxes are apart that with this one reach so far into each other.

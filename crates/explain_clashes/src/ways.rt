@@ -50,27 +50,6 @@ fn gives_room(job: &Job, met: &Meeting, direction: usize) -> bool
     is_either_carried(job, met, direction) || !(x || y || z)
 }
 
-/// How far a high bound is above a low one.
-fn above(high: i32, low: i32) -> i64
-    ensures { result ≡ high -ℤ low }
-{
-    i64::from(high) - i64::from(low)
-}
-
-/// How far two boxes reach into each other in a direction.
-fn way_in(left: &Box3, right: &Box3, direction: usize) -> Way
-    requires { direction < 3 }
-    ensures direction { result.direction ≡ direction }
-    ensures shift { result.shift ≡ reach_along left.now right.now direction }
-{
-    let up = above(left.hi[direction], right.lo[direction]);
-    let down = above(right.hi[direction], left.lo[direction]);
-    Way {
-        direction,
-        shift: up.min(down),
-    }
-}
-
 /// The lesser of a way that was found and one more, or the one that was found where they are equal.
 fn lesser(found: Option<Way>, way: Way) -> Way
     ensures { result ≡ lesser found way }
@@ -90,7 +69,7 @@ fn least_with(found: Option<Way>, job: &Job, met: &Meeting, direction: usize) ->
         met.now.right.cover (direction + 1) result }
 {
     if gives_room(job, met, direction) {
-        let way = way_in(&met.left.cover, &met.right.cover, direction);
+        let way = Way::along(&met.left.cover, &met.right.cover, direction);
         Some(lesser(found, way))
     } else {
         found

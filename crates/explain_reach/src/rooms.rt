@@ -6,8 +6,8 @@ ghost use Rattle.explain_reach.specs.Shapes.{HasPoint, grown_box};
 use crate::lots::most_near;
 use swept_boxes::Box3;
 
-/// The greatest growth at both ends of both boxes by which boxes that reach so far into each other are apart.
-fn room_of(reach: i64) -> i64
+/// The greatest growth in micrometres, at both ends of both boxes, by which boxes are apart that reach into each other by `reach`.
+pub fn room_of(reach: i64) -> i64
     ensures apart { (reach +ℤ (result *ℤ pos 2)) <ℤ pos 0 }
     ensures most { pos 0 ≤ℤ (reach +ℤ ((result +ℤ pos 1) *ℤ pos 2)) }
 {

@@ -23,17 +23,22 @@ fn above(high: i32, low: i32) -> i64
     i64::from(high) - i64::from(low)
 }
 
-/// How far two boxes reach into each other along a direction.
-fn way_along(left: &Box3, right: &Box3, direction: usize) -> Way
-    requires { direction < 3 }
-    ensures direction { result.direction ≡ direction }
-    ensures shift { result.shift ≡ reach_along left.now right.now direction }
-{
-    let up = above(left.hi[direction], right.lo[direction]);
-    let down = above(right.hi[direction], left.lo[direction]);
-    Way {
-        direction,
-        shift: up.min(down),
+impl Way {
+    ghost use Rattle.std.specs.Prelude.{◌≡◌, ◌<◌};
+    ghost use Rattle.explain_reach.specs.Reaches.{reach_along};
+
+    /// How far the boxes `left` and `right` reach into each other along a `direction`, 0 to 2.
+    pub fn along(left: &Box3, right: &Box3, direction: usize) -> Way
+        requires { direction < 3 }
+        ensures direction { result.direction ≡ direction }
+        ensures shift { result.shift ≡ reach_along left.now right.now direction }
+    {
+        let up = above(left.hi[direction], right.lo[direction]);
+        let down = above(right.hi[direction], left.lo[direction]);
+        Way {
+            direction,
+            shift: up.min(down),
+        }
     }
 }
 
@@ -42,7 +47,7 @@ fn is_over_along(number: i64, left: &Box3, right: &Box3, direction: usize) -> bo
     requires { direction < 3 }
     ensures { result ≡ int_lt number (reach_along left.now right.now direction) }
 {
-    number < way_along(left, right, direction).shift
+    number < Way::along(left, right, direction).shift
 }
 
 /// Whether two boxes reach further into each other than a number: they do along each direction.
@@ -70,9 +75,9 @@ fn first_least(left: &Box3, right: &Box3) -> Way
     ensures shift { result.shift ≡ reach_of left.now right.now }
     ensures direction { IsFirstLeast left.now right.now result.direction }
 {
-    let x = way_along(left, right, 0);
-    let y = way_along(left, right, 1);
-    let z = way_along(left, right, 2);
+    let x = Way::along(left, right, 0);
+    let y = Way::along(left, right, 1);
+    let z = Way::along(left, right, 2);
     lesser(lesser(x, y), z)
 }
 

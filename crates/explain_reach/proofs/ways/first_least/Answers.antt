@@ -6,11 +6,11 @@ use Rattle.explain_reach.proofs.ways.first_least.Goals as goal
 pub returns-clause-shift : goal.returns-clause-shift
 unfolding reach_of
 returns-clause-shift c =
-    lesser_shift c.lesser.result c.way_along-z.result c.lesser-2.result c.lesser-2.ensures
-    ∙ rw (lesser_shift c.way_along-x.result c.way_along-y.result c.lesser.result c.lesser.ensures, c.way_along-x.ensures.shift, c.way_along-y.ensures.shift, c.way_along-z.ensures.shift) refl
+    lesser_shift c.lesser.result c.along-z.result c.lesser-2.result c.lesser-2.ensures
+    ∙ rw (lesser_shift c.along-x.result c.along-y.result c.lesser.result c.lesser.ensures, c.along-x.ensures.shift, c.along-y.ensures.shift, c.along-z.ensures.shift) refl
 
 pub returns-clause-direction : goal.returns-clause-direction
 returns-clause-direction c =
-    is_first_least c.args.left.now c.args.right.now c.way_along-x.result c.way_along-y.result c.way_along-z.result c.lesser.result c.lesser-2.result
-    c.way_along-x.ensures.direction c.way_along-x.ensures.shift c.way_along-y.ensures.direction c.way_along-y.ensures.shift c.way_along-z.ensures.direction c.way_along-z.ensures.shift
+    is_first_least c.args.left.now c.args.right.now c.along-x.result c.along-y.result c.along-z.result c.lesser.result c.lesser-2.result
+    c.along-x.ensures.direction c.along-x.ensures.shift c.along-y.ensures.direction c.along-y.ensures.shift c.along-z.ensures.direction c.along-z.ensures.shift
     c.lesser.ensures c.lesser-2.ensures
