@@ -9,11 +9,11 @@ use Rattle.path_geometry.specs.declared.motion.Motion.{Motion}
 use Rattle.block_motions.specs.Arcs.{arc_given, can_run, some_motion}
 use Rattle.block_motions.proofs.Arrivals.{arrives}
 use Rattle.block_motions.proofs.Runs.{in_range, arc_gives}
-use Rattle.block_motions.proofs.arcs.arc_to.Goals as goal
+use Rattle.block_motions.proofs.arcs.ArcBlock.arc_to.Goals as goal
 
 pub move_axes-ends-requires : goal.move_axes-ends-requires
 move_axes-ends-requires c =
-    are_reached c.args.owned (stands c.args.at.now) c.args.goals.now (sym c.are_in_reach.ensures ∙ c.if-not-are_in_reach.false) (sym c.are_own.ensures ∙ c.if-not-are_own.false)
+    are_reached c.args.self.now.axes.now.owned (stands c.args.at.now) c.args.goals.now (sym c.are_in_reach.ensures ∙ c.if-not-are_in_reach.false) (sym c.are_own.ensures ∙ c.if-not-are_own.false)
 
 pub arc_given-requires-clause-ends : goal.arc_given-requires-clause-ends
 arc_given-requires-clause-ends c =
@@ -26,23 +26,23 @@ arc_given-requires-clause-ends c =
 
 pub returns-in-Ok-clause-made : goal.returns-in-Ok-clause-made
 returns-in-Ok-clause-made c h are =
-    let reach : are_in_reach c.args.owned (stands c.args.at.now) c.args.goals.now ≡ true = sym c.are_in_reach.ensures ∙ c.if-not-are_in_reach.false in
-    let own : are_own c.args.owned c.args.goals.now ≡ true = sym c.are_own.ensures ∙ c.if-not-are_own.false in
+    let reach : are_in_reach c.args.self.now.axes.now.owned (stands c.args.at.now) c.args.goals.now ≡ true = sym c.are_in_reach.ensures ∙ c.if-not-are_in_reach.false in
+    let own : are_own c.args.self.now.axes.now.owned c.args.goals.now ≡ true = sym c.are_own.ensures ∙ c.if-not-are_own.false in
     let can : can_run c.args.sides.now c.move_axes-ends.result ≡ true = sym c.can_run.ensures ∙ c.if-not-can_run.false in
-    let given : Ok c.in-Ok.motion ≡ arc_given h (stands c.args.at.now) c.args.words.now c.args.words.now.radius c.args.sides.now c.move_axes-ends.result =
+    let given : Ok c.in-Ok.motion ≡ arc_given h (stands c.args.at.now) c.args.self.now.words.now c.args.self.now.words.now.radius c.args.sides.now c.move_axes-ends.result =
     sym c.in-Ok.is ∙ c.arc_given.ensures.value h are in
     ap (some_motion) given
-    ∙ sym (arc_gives c.args.owned h (stands c.args.at.now) c.args.words.now c.args.sides.now c.args.goals.now reach own c.move_axes-ends.result c.move_axes-ends.ensures.ends can)
+    ∙ sym (arc_gives c.args.self.now.axes.now.owned h (stands c.args.at.now) c.args.self.now.words.now c.args.sides.now c.args.goals.now reach own c.move_axes-ends.result c.move_axes-ends.ensures.ends can)
 
 pub returns-in-Err-clause-made : goal.returns-in-Err-clause-made
 returns-in-Err-clause-made c h are =
-    let reach : are_in_reach c.args.owned (stands c.args.at.now) c.args.goals.now ≡ true = sym c.are_in_reach.ensures ∙ c.if-not-are_in_reach.false in
-    let own : are_own c.args.owned c.args.goals.now ≡ true = sym c.are_own.ensures ∙ c.if-not-are_own.false in
+    let reach : are_in_reach c.args.self.now.axes.now.owned (stands c.args.at.now) c.args.goals.now ≡ true = sym c.are_in_reach.ensures ∙ c.if-not-are_in_reach.false in
+    let own : are_own c.args.self.now.axes.now.owned c.args.goals.now ≡ true = sym c.are_own.ensures ∙ c.if-not-are_own.false in
     let can : can_run c.args.sides.now c.move_axes-ends.result ≡ true = sym c.can_run.ensures ∙ c.if-not-can_run.false in
-    let given : Err c.in-Err.alarm ≡ arc_given h (stands c.args.at.now) c.args.words.now c.args.words.now.radius c.args.sides.now c.move_axes-ends.result =
+    let given : Err c.in-Err.alarm ≡ arc_given h (stands c.args.at.now) c.args.self.now.words.now c.args.self.now.words.now.radius c.args.sides.now c.move_axes-ends.result =
     sym c.in-Err.is ∙ c.arc_given.ensures.value h are in
     ap (some_motion) given
-    ∙ sym (arc_gives c.args.owned h (stands c.args.at.now) c.args.words.now c.args.sides.now c.args.goals.now reach own c.move_axes-ends.result c.move_axes-ends.ensures.ends can)
+    ∙ sym (arc_gives c.args.self.now.axes.now.owned h (stands c.args.at.now) c.args.self.now.words.now c.args.sides.now c.args.goals.now reach own c.move_axes-ends.result c.move_axes-ends.ensures.ends can)
 
 pub returns-in-Ok-clause-stand : goal.returns-in-Ok-clause-stand
 returns-in-Ok-clause-stand c =

@@ -2,7 +2,7 @@ use Rattle.std.proofs.Common.{ap, None}
 use Rattle.swept_boxes.specs.declared.Box3.{Box3}
 use Rattle.protection_zones.specs.Sweeps.{standing_box}
 use Rattle.zone_stretches.specs.declared.stretches.ZoneBox.{ZoneBox}
-use Rattle.protection_zones.proofs.sweeps.standing_box.Goals as goal
+use Rattle.protection_zones.proofs.sweeps.ZoneShape.standing_box.Goals as goal
 
 pub returns : goal.returns
 unfolding standing_box
