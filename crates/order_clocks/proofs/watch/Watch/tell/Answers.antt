@@ -52,4 +52,4 @@ returns-clause-keeps c = λ b keeps lawful.
     changes_are b c.channel_of-channel.result c.step_of-step.result (has c.own.result) c.changes_of-act.result c.args.alarms lawful.alarm own c.changes_of-act.ensures.none c.changes_of-act.ensures.act in
     let part = keeps_part c.args.self.now c.open.new.self b c.channel_of-channel.result c.step_of-step.result c.changes_of-act.result keeps lawful.running change c.open.ensures.marks c.open.ensures.holds in
     rw (c.channel_of-channel.ensures, c.step_of-step.ensures) at (
-        keeps_goings c.open.new.self c.depart.new.self b c.channel_of-channel.result c.step_of-step.result c.goes_of.result lawful.running part lawful.goings c.depart.ensures.holds c.depart.ensures.marks)
+    keeps_goings c.open.new.self c.depart.new.self b c.channel_of-channel.result c.step_of-step.result c.goes_of.result lawful.running part lawful.goings c.depart.ensures.holds c.depart.ensures.marks)
