@@ -6,11 +6,11 @@ use Rattle.channel_machine.proofs.Pasts.{map-push}
 use Rattle.channel_machine.specs.Kept.{KeptSegment, StateView}
 use Rattle.channel_machine.specs.Locals.{IsKeptOf, IsReady, IsSegmentOf}
 use Rattle.parallel_run.proofs.GoneOn.{ready_put}
-use Rattle.parallel_run.proofs.going.turn.Goals as goal
+use Rattle.parallel_run.proofs.going.RunSoFar.turn.Goals as goal
 
 pub returns-clause-turn : goal.returns-clause-turn
 returns-clause-turn c =
-    let locals : List (Option StateView) = c.args.locals.now.items in
+    let locals : List (Option StateView) = c.args.self.now.locals.items in
     let kept : KeptSegment = record { items = c.done.inside.items.items; step = c.done.inside.step; after = c.done.inside.after } in
     let at : c.from-place.result ≡ c.args.channel = c.from-place.ensures ∙ c.channel.view_is in
     let below : c.args.channel < CHANNEL_PLACES = omega (arith, c.channel.invariant.1, c.channel.view_is) in
@@ -24,14 +24,14 @@ returns-clause-turn c =
           (c.in_ok-done.ensures.told made (subst (λ (o : Option StateView). IsKeptOf c.args.job.now c.args.channel made o) (sym had) is));
       ready = subst (λ (k : KeptSegment). IsReady c.args.job.now c.args.channel k.after) (sym c.done.view_is) c.in_ok-done.ensures.ready;
       acted = c.in_ok-act.ensures.ok;
-      items = ap (map (λ items. items.items)) c.in_ok-push.ensures.items ∙ map-push (λ items. items.items) c.args.items.now.items c.done.inside.items;
+      items = ap (map (λ items. items.items)) c.in_ok-push.ensures.items ∙ map-push (λ items. items.items) c.args.self.now.items.items c.done.inside.items;
       here = there.here;
       others = there.others;
     }
 
 pub returns-clause-ready : goal.returns-clause-ready
 returns-clause-ready c =
-    let locals : List (Option StateView) = c.args.locals.now.items in
+    let locals : List (Option StateView) = c.args.self.now.locals.items in
     let at : c.from-place.result ≡ c.args.channel = c.from-place.ensures ∙ c.channel.view_is in
     let below : c.args.channel < CHANNEL_PLACES = omega (arith, c.channel.invariant.1, c.channel.view_is) in
     ready_put c.args.job.now locals c.args.channel c.done.inside.after _ c.requires.ready (put locals c.from-place.result c.args.channel c.take-local.new.self c.done.inside.after at c.requires.ready.places below)
