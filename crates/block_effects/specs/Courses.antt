@@ -15,7 +15,7 @@ use Rattle.block_effects.specs.declared.course.BlockFault.TheVariants.{Alarm, No
 use Rattle.block_effects.specs.declared.course.Course as answer
 use Rattle.block_effects.specs.declared.course.Course.TheVariants as course
 use Rattle.block_effects.specs.declared.course.Done.{Done}
-use Rattle.block_effects.specs.declared.situation.ChannelAxes.{ChannelAxes}
+use Rattle.block_motions.specs.declared.axes.ChannelAxes.{ChannelAxes}
 use Rattle.block_effects.specs.declared.situation.Situation.{Situation}
 use Rattle.block_effects.specs.Effects.{Course, Goes, Ends, Calls, Effect, Turning, SituationView, effect_of, words_run}
 use Rattle.block_effects.specs.Words.{SetupView, Progress}

@@ -21,9 +21,11 @@ use crate::groups::{conditions, group_words, plane_in, stands_still};
 use crate::parameters::Parameters;
 use crate::progress::WordsDone;
 use crate::shapes::{shape, turn};
-use crate::situation::{ChannelAxes, Situation};
+use crate::situation::Situation;
 use axis_sets::Positions;
-use block_motions::{ArcWords, Conditions, Targets, arc_motion, is_any, straight_motion, word};
+use block_motions::{
+    ArcWords, ChannelAxes, Conditions, Targets, arc_motion, is_any, straight_motion, word,
+};
 use fault_codes::alarms::ARC_WORDS;
 use frames::Frame;
 use g_groups::{BLOCK_GROUP, GWord, MOTION_GROUP, Modal, apply};
@@ -78,10 +80,10 @@ fn make_motion(
     ensures unmoved { OnErr result (at.new ≡ at.old) }
 {
     if is_arc(conditions) {
-        *motion = arc_motion(&axes.slots, axes.owned, conditions, targets, arc, at)?;
+        *motion = arc_motion(axes, conditions, targets, arc, at)?;
         Ok(())
     } else {
-        straight_motion(&axes.slots, axes.owned, conditions, targets, at, motion)
+        straight_motion(axes, conditions, targets, at, motion)
     }
 }
 

@@ -14,8 +14,9 @@ mod progress;
 mod shapes;
 mod situation;
 
+pub use block_motions::ChannelAxes;
 pub use course::{BlockFault, Course, Done, Setup};
 pub use effects::{execute, execute_to};
 pub use laws::{alarms_are_listed, motions_begin_where_axes_stand};
 pub use parameters::Parameters;
-pub use situation::{ChannelAxes, Situation};
+pub use situation::Situation;

@@ -9,9 +9,8 @@ ghost use Rattle.block_effects.specs.Courses.{equipment_of};
 
 use crate::course::Setup;
 use crate::parameters::{Change, Parameters};
-use crate::situation::ChannelAxes;
 use axis_sets::{AXIS_LIMIT, AxisId};
-use block_motions::{ArcWords, Programmed, Targets};
+use block_motions::{ArcWords, ChannelAxes, Programmed, Targets};
 use fault_codes::alarms::{ADDRESS_TWICE, GEOMETRY_AXIS_BY_NAME, NO_SUCH_AXIS};
 use micro_units::Num;
 use nc_blocks::{Operand, Word};

@@ -1,18 +1,9 @@
 //! What a block finds and leaves.
 
 use crate::parameters::Parameters;
-use axis_sets::{AxisId, AxisSet, Positions};
+use axis_sets::Positions;
 use frames::Frame;
 use g_groups::Modal;
-
-/// The axes of a channel.
-#[derive(Clone, Copy)]
-pub struct ChannelAxes {
-    /// Those in its slots X, Y and Z.
-    pub slots: [Option<AxisId>; 3],
-    /// Those that it owns.
-    pub owned: AxisSet,
-}
 
 /// What a block finds and leaves.
 #[derive(Drop)]

@@ -11,6 +11,7 @@ ghost use Rattle.path_geometry.specs.Motions.{AreSound, HavePlane, axes_of};
 ghost use Rattle.micro_units.specs.Position.{IsPosition};
 ghost use Rattle.block_motions.specs.Arcs as model;
 
+use crate::axes::ChannelAxes;
 use crate::goals::{
     Conditions, Goal, Programmed, Targets, change_through, frame_in, goal_through, have_axes,
     put_goals,
@@ -19,7 +20,7 @@ use crate::motions::{are_in_reach, are_own, move_axes, stands};
 use crate::planes::Side;
 use crate::sides::{have_one_factor, in_turn, is_backward, sides_in};
 use crate::words::{ArcWords, centre_word, is_given, is_in_plane, moves_arc, plane_of};
-use axis_sets::{AXIS_LIMIT, AxisId, AxisSet, Positions};
+use axis_sets::{AXIS_LIMIT, AxisId, Positions};
 use fault_codes::alarms::{
     ARC_SCALE, ARC_WORDS, AXIS_NOT_OWNED, CENTRE_OUTSIDE_PLANE, NO_SUCH_AXIS, OUT_OF_RANGE,
 };
@@ -290,90 +291,87 @@ fn can_run(sides: &(Side, Side), ends: &Ends) -> bool
         && sides.0.moved != sides.1.moved
 }
 
-/// Gives the arc to these goals, or alarms.
-#[tactic(auto, unfolding(crate::specs::Arcs::arc_to))]
-fn arc_to(
-    owned: AxisSet,
-    conditions: &Conditions,
-    words: &ArcWords,
-    sides: &(Side, Side),
-    goals: &[Option<Goal>; AXIS_LIMIT],
-    at: &mut Positions,
-) -> Result<Option<Motion>, u16>
-    ensures made { (h : ConditionsView) → AreInForce h conditions.now
-        → result ≡ model.arc_to owned h (stands_at at.old) words.now sides.now goals.now }
-    ensures stand { IfOk result (λ motion. StandsAtEndOf motion at.old at.new) }
-    ensures unmoved { OnErr result (at.new ≡ at.old) }
-{
-    if !are_in_reach(owned, at, goals) {
-        return Err(OUT_OF_RANGE);
-    }
-    if !are_own(owned, goals) {
-        return Err(AXIS_NOT_OWNED);
-    }
-    let mut moved = *at;
-    let ends = move_axes(goals, &mut moved);
-    if !can_run(sides, &ends) {
-        return Err(OUT_OF_RANGE);
-    }
-    match arc_given(conditions, at, words, sides, &ends) {
-        Ok(motion) => {
-            *at = moved;
-            Ok(Some(motion))
-        }
-        Err(alarm) => Err(alarm),
-    }
+/// A block with an arc: what it programs, the axes of its channel, and what holds in it.
+#[derive(Drop)]
+struct ArcBlock<'a> {
+    axes: &'a ChannelAxes,
+    conditions: &'a Conditions,
+    targets: &'a Targets,
+    words: &'a ArcWords,
 }
 
-/// Gives the arc between two axes of a plane.
-fn arc_between(
-    slots: &[Option<AxisId>; 3],
-    owned: AxisSet,
-    conditions: &Conditions,
-    targets: &Targets,
-    words: &ArcWords,
-    plane: Plane,
-    at: &mut Positions,
-) -> Result<Option<Motion>, u16>
-    ensures made { (h : ConditionsView) → AreInForce h conditions.now
-        → result ≡ model.arc_between slots.now owned h (stands_at at.old) targets.now words.now plane
-        (model.sides_in slots.now h plane) }
-    ensures stand { IfOk result (λ motion. StandsAtEndOf motion at.old at.new) }
-    ensures unmoved { OnErr result (at.new ≡ at.old) }
-{
-    match sides_in(slots, conditions, plane) {
-        Some(sides) => {
-            if !have_one_factor(conditions, plane) {
-                return Err(ARC_SCALE);
+impl<'a> ArcBlock<'a> {
+    /// Gives the arc to these goals, or alarms.
+    #[tactic(auto, unfolding(crate::specs::Arcs::arc_to))]
+    fn arc_to(
+        &self,
+        sides: &(Side, Side),
+        goals: &[Option<Goal>; AXIS_LIMIT],
+        at: &mut Positions,
+    ) -> Result<Option<Motion>, u16>
+        ensures made { (h : ConditionsView) → AreInForce h self.now.conditions.now
+            → result ≡ model.arc_to self.now.axes.now.owned h (stands_at at.old) self.now.words.now sides.now goals.now }
+        ensures stand { IfOk result (λ motion. StandsAtEndOf motion at.old at.new) }
+        ensures unmoved { OnErr result (at.new ≡ at.old) }
+    {
+        let owned = self.axes.owned;
+        if !are_in_reach(owned, at, goals) {
+            return Err(OUT_OF_RANGE);
+        }
+        if !are_own(owned, goals) {
+            return Err(AXIS_NOT_OWNED);
+        }
+        let mut moved = *at;
+        let ends = move_axes(goals, &mut moved);
+        if !can_run(sides, &ends) {
+            return Err(OUT_OF_RANGE);
+        }
+        match arc_given(self.conditions, at, self.words, sides, &ends) {
+            Ok(motion) => {
+                *at = moved;
+                Ok(Some(motion))
             }
-            let goals = arc_goals(slots, conditions, targets, &sides);
-            let turned = in_turn(is_backward(conditions, plane), sides);
-            arc_to(owned, conditions, words, &turned, &goals, at)
+            Err(alarm) => Err(alarm),
         }
-        None => Err(NO_SUCH_AXIS),
     }
-}
 
-/// Gives the arc of words that can be one.
-#[tactic(auto, unfolding(crate::specs::Arcs::arc_through))]
-fn arc_through(
-    slots: &[Option<AxisId>; 3],
-    owned: AxisSet,
-    conditions: &Conditions,
-    targets: &Targets,
-    words: &ArcWords,
-    plane: Plane,
-    at: &mut Positions,
-) -> Result<Option<Motion>, u16>
-    ensures made { (h : ConditionsView) → AreInForce h conditions.now
-        → result ≡ model.arc_through slots.now owned h (stands_at at.old) targets.now words.now plane }
-    ensures stand { IfOk result (λ motion. StandsAtEndOf motion at.old at.new) }
-    ensures unmoved { OnErr result (at.new ≡ at.old) }
-{
-    if !have_axes(slots, conditions, &targets.slots) {
-        return Err(NO_SUCH_AXIS);
+    /// Gives the arc between two axes of a plane.
+    fn arc_between(&self, plane: Plane, at: &mut Positions) -> Result<Option<Motion>, u16>
+        ensures made { (h : ConditionsView) → AreInForce h self.now.conditions.now
+            → result ≡ model.arc_between self.now.axes.now.slots self.now.axes.now.owned h (stands_at at.old)
+            self.now.targets.now self.now.words.now plane (model.sides_in self.now.axes.now.slots h plane) }
+        ensures stand { IfOk result (λ motion. StandsAtEndOf motion at.old at.new) }
+        ensures unmoved { OnErr result (at.new ≡ at.old) }
+    {
+        let slots = &self.axes.slots;
+        let conditions = self.conditions;
+        match sides_in(slots, conditions, plane) {
+            Some(sides) => {
+                if !have_one_factor(conditions, plane) {
+                    return Err(ARC_SCALE);
+                }
+                let goals = arc_goals(slots, conditions, self.targets, &sides);
+                let turned = in_turn(is_backward(conditions, plane), sides);
+                self.arc_to(&turned, &goals, at)
+            }
+            None => Err(NO_SUCH_AXIS),
+        }
     }
-    arc_between(slots, owned, conditions, targets, words, plane, at)
+
+    /// Gives the arc of words that can be one.
+    #[tactic(auto, unfolding(crate::specs::Arcs::arc_through))]
+    fn arc_through(&self, plane: Plane, at: &mut Positions) -> Result<Option<Motion>, u16>
+        ensures made { (h : ConditionsView) → AreInForce h self.now.conditions.now
+            → result ≡ model.arc_through self.now.axes.now.slots self.now.axes.now.owned h (stands_at at.old)
+            self.now.targets.now self.now.words.now plane }
+        ensures stand { IfOk result (λ motion. StandsAtEndOf motion at.old at.new) }
+        ensures unmoved { OnErr result (at.new ≡ at.old) }
+    {
+        if !have_axes(&self.axes.slots, self.conditions, &self.targets.slots) {
+            return Err(NO_SUCH_AXIS);
+        }
+        self.arc_between(plane, at)
+    }
 }
 
 /// Gives the motion of a block with an arc, and takes the axes to its ends. The arc turns as G2 says where that is the word of its group, and else as G3. A block that programs no
@@ -397,15 +395,14 @@ fn arc_through(
 /// - 20, 21, 22, and 13 for a centre by the radius: those of `arc_by_centre` and `arc_by_radius`.
 #[tactic(auto, unfolding(crate::specs::Arcs::arc_motion))]
 pub fn arc_motion(
-    slots: &[Option<AxisId>; 3],
-    owned: AxisSet,
+    axes: &ChannelAxes,
     conditions: &Conditions,
     targets: &Targets,
     words: &ArcWords,
     at: &mut Positions,
 ) -> Result<Option<Motion>, u16>
     ensures made { (h : ConditionsView) → AreInForce h conditions.now
-        → result ≡ model.arc_motion slots.now owned h (stands_at at.old) targets.now words.now }
+        → result ≡ model.arc_motion axes.now.slots axes.now.owned h (stands_at at.old) targets.now words.now }
     ensures stand { IfOk result (λ motion. StandsAtEndOf motion at.old at.new) }
     ensures unmoved { OnErr result (at.new ≡ at.old) }
 {
@@ -419,5 +416,11 @@ pub fn arc_motion(
     if !is_in_plane(plane, words) {
         return Err(CENTRE_OUTSIDE_PLANE);
     }
-    arc_through(slots, owned, conditions, targets, words, plane, at)
+    let block = ArcBlock {
+        axes,
+        conditions,
+        targets,
+        words,
+    };
+    block.arc_through(plane, at)
 }

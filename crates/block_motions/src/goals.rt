@@ -219,12 +219,52 @@ fn goal_by_name(conditions: &Conditions, programmed: Programmed) -> Goal
     }
 }
 
-/// The axis that X, Y or Z moves through the frame of the block.
-fn axis_through(slots: &[Option<AxisId>; 3], frame: &Frame, axis: u8) -> Option<AxisId>
-    requires { axis < 3 }
-    ensures { (h : ConditionsView) → IsComposed (model.chain_in h) frame.now → result ≡ model.axis_in slots.now h axis }
-{
-    slots[usize::from(slot_of(frame, axis))]
+/// How X, Y and Z come to the axes of a channel: through the frame of a block to its slots.
+#[derive(Drop)]
+struct Passage<'a> {
+    slots: &'a [Option<AxisId>; 3],
+    conditions: &'a Conditions,
+    frame: Frame,
+}
+
+impl<'a> Passage<'a> {
+    /// The axis that X, Y or Z moves.
+    fn axis(&self, axis: u8) -> Option<AxisId>
+        requires { axis < 3 }
+        ensures { (h : ConditionsView) → IsComposed (model.chain_in h) self.now.frame
+            → result ≡ model.axis_in self.now.slots.now h axis }
+    {
+        self.slots[usize::from(slot_of(&self.frame, axis))]
+    }
+
+    /// Whether X, Y or Z has an axis that it moves, or is not programmed.
+    fn has_axis(&self, axis: u8, programmed: Option<Programmed>) -> bool
+        requires { axis < 3 }
+        ensures { (h : ConditionsView) → IsComposed (model.chain_in h) self.now.frame
+            → result ≡ model.has_axis self.now.slots.now h axis programmed }
+    {
+        programmed.is_none() || self.axis(axis).is_some()
+    }
+
+    /// Puts the goal of X, Y or Z among the goals, if it is programmed and moves an axis.
+    fn put_goal(
+        &self,
+        goals: &mut [Option<Goal>; AXIS_LIMIT],
+        axis: u8,
+        programmed: Option<Programmed>,
+    )
+        requires { axis < 3 }
+        ensures { (h : ConditionsView) → AreInForce h self.now.conditions.now
+            → IsComposed (model.chain_in h) self.now.frame
+            → goals.new ≡ model.with_goal self.now.slots.now h axis programmed goals.old }
+    {
+        if let Some(programmed) = programmed {
+            if let Some(moved) = self.axis(axis) {
+                let goal = goal_in(self.conditions, &self.frame, axis, programmed);
+                goals[usize::from(moved.index)] = Some(goal);
+            }
+        }
+    }
 }
 
 /// The axis that X, Y or Z moves.
@@ -236,21 +276,13 @@ pub(crate) fn axis_in(
     requires { axis < 3 }
     ensures { (h : ConditionsView) → AreInForce h conditions.now → result ≡ model.axis_in slots.now h axis }
 {
-    axis_through(slots, &frame_in(conditions), axis)
-}
-
-/// Whether X, Y or Z has an axis that it moves, or is not programmed.
-fn has_axis(
-    slots: &[Option<AxisId>; 3],
-    frame: &Frame,
-    axis: u8,
-    programmed: Option<Programmed>,
-) -> bool
-    requires { axis < 3 }
-    ensures { (h : ConditionsView) → IsComposed (model.chain_in h) frame.now
-        → result ≡ model.has_axis slots.now h axis programmed }
-{
-    programmed.is_none() || axis_through(slots, frame, axis).is_some()
+    let frame = frame_in(conditions);
+    let passage = Passage {
+        slots,
+        conditions,
+        frame,
+    };
+    passage.axis(axis)
 }
 
 /// Whether each of X, Y and Z that is programmed has an axis that it moves.
@@ -263,9 +295,14 @@ pub(crate) fn have_axes(
     ensures { (h : ConditionsView) → AreInForce h conditions.now → result ≡ model.have_axes slots.now h values.now }
 {
     let frame = frame_in(conditions);
-    has_axis(slots, &frame, 0, values[0])
-        && has_axis(slots, &frame, 1, values[1])
-        && has_axis(slots, &frame, 2, values[2])
+    let passage = Passage {
+        slots,
+        conditions,
+        frame,
+    };
+    passage.has_axis(0, values[0])
+        && passage.has_axis(1, values[1])
+        && passage.has_axis(2, values[2])
 }
 
 /// Puts the goal of an axis by its own name in its place, if it is programmed.
@@ -294,26 +331,6 @@ fn put_named_goals(
     }
 }
 
-/// Puts the goal of X, Y or Z among the goals, if it is programmed and moves an axis.
-fn put_goal(
-    goals: &mut [Option<Goal>; AXIS_LIMIT],
-    slots: &[Option<AxisId>; 3],
-    conditions: &Conditions,
-    frame: &Frame,
-    axis: u8,
-    programmed: Option<Programmed>,
-)
-    requires { axis < 3 }
-    ensures { (h : ConditionsView) → AreInForce h conditions.now → IsComposed (model.chain_in h) frame.now
-        → goals.new ≡ model.with_goal slots.now h axis programmed goals.old }
-{
-    if let Some(programmed) = programmed {
-        if let Some(moved) = axis_through(slots, frame, axis) {
-            goals[usize::from(moved.index)] = Some(goal_in(conditions, frame, axis, programmed));
-        }
-    }
-}
-
 /// Puts the goals of a block by the numbers of the axes.
 #[tactic(auto, unfolding(crate::specs::Goals::goals_of))]
 pub(crate) fn put_goals(
@@ -327,8 +344,13 @@ pub(crate) fn put_goals(
 {
     let [x, y, z] = targets.slots;
     let frame = frame_in(conditions);
+    let passage = Passage {
+        slots,
+        conditions,
+        frame,
+    };
     put_named_goals(goals, conditions, &targets.axes);
-    put_goal(goals, slots, conditions, &frame, 0, x);
-    put_goal(goals, slots, conditions, &frame, 1, y);
-    put_goal(goals, slots, conditions, &frame, 2, z);
+    passage.put_goal(goals, 0, x);
+    passage.put_goal(goals, 1, y);
+    passage.put_goal(goals, 2, z);
 }

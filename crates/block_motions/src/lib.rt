@@ -6,6 +6,7 @@
 #![tactic(auto)]
 
 mod arcs;
+mod axes;
 mod goals;
 mod laws;
 mod motions;
@@ -14,6 +15,7 @@ mod sides;
 mod words;
 
 pub use arcs::arc_motion;
+pub use axes::ChannelAxes;
 pub use goals::{Conditions, Programmed, Targets, word};
 pub use laws::{alarms_are_listed, arcs_begin_where_axes_stand, motions_begin_where_axes_stand};
 pub use motions::{stands, straight_motion};

@@ -6,6 +6,7 @@ ghost use Rattle.axis_sets.specs.Positions as positions;
 ghost use Rattle.block_motions.specs.Goals.{ConditionsView, AreInForce};
 ghost use Rattle.block_motions.specs.Motions as model;
 
+use crate::axes::ChannelAxes;
 use crate::goals::{Conditions, Goal, Targets, have_axes, put_goals, word};
 use crate::words::is_any;
 use arrayvec::ArrayVec;
@@ -193,8 +194,7 @@ fn move_to(
 /// - 15: an axis is not owned.
 #[tactic(auto, unfolding(crate::specs::Motions::straight_motion))]
 pub fn straight_motion(
-    slots: &[Option<AxisId>; 3],
-    owned: AxisSet,
+    axes: &ChannelAxes,
     conditions: &Conditions,
     targets: &Targets,
     at: &mut Positions,
@@ -202,7 +202,7 @@ pub fn straight_motion(
 ) -> Result<(), u16>
     requires { motion.old ≡ None }
     ensures made { (h : ConditionsView) → AreInForce h conditions.now
-        → model.given_motion motion.new result ≡ model.straight_motion slots.now owned h
+        → model.given_motion motion.new result ≡ model.straight_motion axes.now.slots axes.now.owned h
         (positions.stands at.old) targets.now }
     ensures stand { IfOk result (λ _. model.StandsAtEndOf motion.new at.old at.new) }
     ensures unmoved { OnErr result (at.new ≡ at.old) }
@@ -210,10 +210,10 @@ pub fn straight_motion(
     if !is_any(&targets.slots) && !is_any(&targets.axes) {
         return Ok(());
     }
-    if !have_axes(slots, conditions, &targets.slots) {
+    if !have_axes(&axes.slots, conditions, &targets.slots) {
         return Err(NO_SUCH_AXIS);
     }
     let mut goals = [None; AXIS_LIMIT];
-    put_goals(&mut goals, slots, conditions, targets);
-    move_to(owned, is_rapid(conditions), &goals, at, motion)
+    put_goals(&mut goals, &axes.slots, conditions, targets);
+    move_to(axes.owned, is_rapid(conditions), &goals, at, motion)
 }

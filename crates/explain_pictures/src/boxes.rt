@@ -6,7 +6,7 @@ ghost use Rattle.explain_pictures.specs.Boxes as model;
 ghost use Rattle.explain_pictures.specs.Focus.{view_of};
 
 use crate::kept::keep;
-use crate::scene::{Scene, is_apart};
+use crate::scene::{DrawnStretch, Scene, is_apart};
 use explain_views::{Look, Tile};
 use job_types::ZoneLine;
 use out_of_memory::NoMemory;
@@ -65,28 +65,27 @@ fn add_pieces(
     Ok(())
 }
 
-/// Adds a box by its pieces.
+/// Adds a box of a stretch by its pieces.
 fn add_box(
     tiles: &mut Vec<Tile>,
     limit: usize,
-    scene: &Scene,
-    pale: bool,
-    zone: &ZoneLine,
-    stretch: &Stretch,
+    drawn: &DrawnStretch<'_>,
     own: &ZoneBox,
 ) -> Result<(), NoMemory>
-    requires fit { All (All IsFit) scene.now.run.now.items }
-    requires deep { scene.now.job.now.depth ≤ DEPTH_LIMIT }
+    requires fit { All (All IsFit) drawn.now.run.now.items }
+    requires deep { drawn.now.job.now.depth ≤ DEPTH_LIMIT }
     ensures { IfOk result (λ _. take limit tiles.new.items
         ≡ take limit (tiles.old.items
-        ++ model.tiles_of_box scene.now.job.now scene.now.run.now pale zone.now stretch.now own.now)) }
+        ++ model.tiles_of_box drawn.now.job.now drawn.now.run.now drawn.now.pale drawn.now.zone.now
+        drawn.now.stretch.now own.now)) }
 {
-    let pieces = boxes_by_pieces(scene.job, scene.run, zone, stretch, own);
+    let stretch = drawn.stretch;
+    let pieces = boxes_by_pieces(drawn.job, drawn.run, drawn.zone, stretch, own);
     add_pieces(
         tiles,
         limit,
         pieces.as_slice(),
-        &tile_of(stretch, own, pale),
+        &tile_of(stretch, own, drawn.pale),
     )
 }
 
@@ -105,8 +104,15 @@ fn add_stretch(
         ≡ take limit (tiles.old.items ++ model.tiles_of_stretch (view_of scene.now) zone.now stretch.now)) }
 {
     let pale = is_apart(scene, stretch);
+    let drawn = DrawnStretch {
+        job: scene.job,
+        run: scene.run,
+        zone,
+        stretch,
+        pale,
+    };
     for own in &stretch.boxes {
-        add_box(tiles, limit, scene, pale, zone, stretch, own)?;
+        add_box(tiles, limit, &drawn, own)?;
     }
     Ok(())
 }

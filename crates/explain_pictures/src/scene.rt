@@ -5,7 +5,7 @@ ghost use Rattle.zone_stretches.specs.Overlaps.{is_open_at};
 ghost use Rattle.explain_pictures.specs.Focus as model;
 
 use explain_places::{Meeting, Place};
-use job_types::Job;
+use job_types::{Job, ZoneLine};
 use order_clocks::Clocks;
 use sync_types::{EventId, Run};
 use zone_stretches::{Stretch, Stretches};
@@ -23,6 +23,21 @@ pub struct Scene<'a> {
     pub clocks: &'a Clocks,
     /// The two boxes that are looked at, if any are: what is apart in time from both is pale.
     pub focus: Option<Meeting>,
+}
+
+/// A stretch of a zone in a run, as it is drawn.
+#[derive(Clone, Copy)]
+pub(crate) struct DrawnStretch<'a> {
+    /// The job.
+    pub(crate) job: &'a Job,
+    /// Its run.
+    pub(crate) run: &'a Run,
+    /// The zone.
+    pub(crate) zone: &'a ZoneLine,
+    /// The stretch.
+    pub(crate) stretch: &'a Stretch,
+    /// Whether it is pale, apart in time from what is looked at.
+    pub(crate) pale: bool,
 }
 
 /// Whether an event is another or before it.

@@ -7,7 +7,7 @@ ghost use Rattle.swept_boxes.specs.Boxes.{low_of, high_of};
 
 use crate::boxes::stretches_at;
 use crate::kept::keep;
-use crate::scene::{Scene, is_apart};
+use crate::scene::{DrawnStretch, Scene, is_apart};
 use crate::turns::{signed, turn_of};
 use axis_sets::AxisId;
 use explain_views::{Track, Turn};
@@ -153,20 +153,16 @@ fn in_tint(track: Track, pale: bool) -> Track
 
 /// The way of a box of a stretch of a zone; none where it stands or nobody holds the zone.
 #[tactic(auto, unfolding(crate::specs::Tracks::track_at))]
-fn track_at(
-    scene: &Scene,
-    pale: bool,
-    zone: &ZoneLine,
-    stretch: &Stretch,
-    own: &ZoneBox,
-) -> Option<Track>
-    ensures { result ≡ model.track_at scene.now.job.now scene.now.run.now pale zone.now stretch.now own.now }
+fn track_at(drawn: &DrawnStretch<'_>, own: &ZoneBox) -> Option<Track>
+    ensures { result ≡ model.track_at drawn.now.job.now drawn.now.run.now drawn.now.pale drawn.now.zone.now
+        drawn.now.stretch.now own.now }
 {
+    let stretch = drawn.stretch;
     match stretch.name.channel {
-        Some(channel) => match motion_at(scene.run, stretch.entry, own.motion) {
+        Some(channel) => match motion_at(drawn.run, stretch.entry, own.motion) {
             Some(motion) => {
-                let track = track_of(scene.job, zone, channel.number, own, motion);
-                Some(in_tint(track, pale))
+                let track = track_of(drawn.job, drawn.zone, channel.number, own, motion);
+                Some(in_tint(track, drawn.pale))
             }
             None => None,
         },
@@ -174,21 +170,19 @@ fn track_at(
     }
 }
 
-/// Adds the way of a box, while there is room.
+/// Adds the way of a box of a stretch, while there is room.
 fn add_box(
     tracks: &mut Vec<Track>,
     limit: usize,
-    scene: &Scene,
-    pale: bool,
-    zone: &ZoneLine,
-    stretch: &Stretch,
+    drawn: &DrawnStretch<'_>,
     own: &ZoneBox,
 ) -> Result<(), NoMemory>
     ensures { IfOk result (λ _. take limit tracks.new.items
         ≡ take limit (tracks.old.items
-        ++ model.tracks_of_box scene.now.job.now scene.now.run.now pale zone.now stretch.now own.now)) }
+        ++ model.tracks_of_box drawn.now.job.now drawn.now.run.now drawn.now.pale drawn.now.zone.now
+        drawn.now.stretch.now own.now)) }
 {
-    match track_at(scene, pale, zone, stretch, own) {
+    match track_at(drawn, own) {
         Some(track) => keep(tracks, limit, track),
         None => Ok(()),
     }
@@ -207,8 +201,15 @@ fn add_stretch(
         ≡ take limit (tracks.old.items ++ model.tracks_of_stretch (view_of scene.now) zone.now stretch.now)) }
 {
     let pale = is_apart(scene, stretch);
+    let drawn = DrawnStretch {
+        job: scene.job,
+        run: scene.run,
+        zone,
+        stretch,
+        pale,
+    };
     for own in &stretch.boxes {
-        add_box(tracks, limit, scene, pale, zone, stretch, own)?;
+        add_box(tracks, limit, &drawn, own)?;
     }
     Ok(())
 }

@@ -101,54 +101,6 @@ fn is_silent(silent: Option<usize>, place: usize) -> bool
     silent == Some(place)
 }
 
-/// Puts the trace lines of an entry.
-#[tactic(auto, unfolding(crate::specs::Channels::entry_lines))]
-fn put_entry<K: Sink>(
-    page: &mut Page,
-    sink: &mut K,
-    job: &Job,
-    run: &Run,
-    silent: Option<usize>,
-    place: usize,
-    entry: &Entry,
-) -> Result<(), Failed>
-    requires few { K.faults sink.old < 2 ^ 64 - 1 }
-    ensures text { Puts (stage (K.written sink.old) (K.count sink.old) page.old)
-        (stage (K.written sink.new) (K.count sink.new) page.new) result
-        (model.entry_lines job.now run.now silent (place, entry.now)) }
-    ensures cause { HasCause (K.faults sink.old) (K.faults sink.new) result }
-{
-    put_items(page, sink, job, run.items_at(place))?;
-    if is_silent(silent, place) {
-        return Ok(());
-    }
-    put_step(page, sink, job, &entry.step)
-}
-
-/// Puts the trace lines of a channel.
-#[tactic(auto, unfolding(crate::specs::Channels::trace_lines, crate::specs::Channels::own_lines))]
-fn put_trace<K: Sink>(
-    page: &mut Page,
-    sink: &mut K,
-    job: &Job,
-    run: &Run,
-    channel: ChannelId,
-    silent: Option<usize>,
-) -> Result<(), Failed>
-    requires few { K.faults sink.old < 2 ^ 64 - 1 }
-    ensures text { Puts (stage (K.written sink.old) (K.count sink.old) page.old)
-        (stage (K.written sink.new) (K.count sink.new) page.new) result
-        (model.trace_lines job.now run.now channel silent) }
-    ensures cause { HasCause (K.faults sink.old) (K.faults sink.new) result }
-{
-    for (place, entry) in run.entries.iter().enumerate() {
-        if is_step_of(entry, channel) {
-            put_entry(page, sink, job, run, silent, place, entry)?;
-        }
-    }
-    Ok(())
-}
-
 /// What an alarm says.
 #[tactic(auto, using(crate::proofs::TextLengths::alarm_text_short))]
 fn text_of(alarm: &Alarm) -> &'static str
@@ -240,25 +192,84 @@ fn put_state<K: Sink>(page: &mut Page, sink: &mut K, end: &ChannelEnd) -> Result
     Ok(())
 }
 
-/// Puts the lines of a channel that has stopped so.
-#[tactic(auto, unfolding(crate::specs::Channels::channel_lines))]
-pub(crate) fn put_channel<K: Sink>(
-    page: &mut Page,
-    sink: &mut K,
-    job: &Job,
-    run: &Run,
-    channel: ChannelId,
-    end: &ChannelEnd,
-) -> Result<(), Failed>
-    requires listed { model.IsListedEnd end.now }
-    requires few { K.faults sink.old < 2 ^ 64 - 1 }
-    ensures text { Puts (stage (K.written sink.old) (K.count sink.old) page.old)
-        (stage (K.written sink.new) (K.count sink.new) page.new) result
-        (model.channel_lines job.now run.now channel end.now) }
-    ensures cause { HasCause (K.faults sink.old) (K.faults sink.new) result }
-{
-    put_channel_line(page, sink, channel)?;
-    let silent = silent_place(&run.entries, channel, end);
-    put_trace(page, sink, job, run, channel, silent)?;
-    put_state(page, sink, end)
+/// A run, and the job whose run it is.
+#[derive(Clone, Copy)]
+pub(crate) struct JobRun<'a> {
+    /// The job.
+    pub(crate) job: &'a Job,
+    /// The run.
+    pub(crate) run: &'a Run,
+}
+
+impl<'a> JobRun<'a> {
+    /// Puts the trace lines of an entry, with its place.
+    #[tactic(auto, unfolding(crate::specs::Channels::entry_lines))]
+    fn put_entry<K: Sink>(
+        &self,
+        page: &mut Page,
+        sink: &mut K,
+        silent: Option<usize>,
+        numbered: (usize, &Entry),
+    ) -> Result<(), Failed>
+        requires few { K.faults sink.old < 2 ^ 64 - 1 }
+        ensures text { Puts (stage (K.written sink.old) (K.count sink.old) page.old)
+            (stage (K.written sink.new) (K.count sink.new) page.new) result
+            (model.entry_lines self.now.job.now self.now.run.now silent (numbered.0, numbered.1.now)) }
+        ensures cause { HasCause (K.faults sink.old) (K.faults sink.new) result }
+    {
+        let job = self.job;
+        let (place, entry) = numbered;
+        put_items(page, sink, job, self.run.items_at(place))?;
+        if is_silent(silent, place) {
+            return Ok(());
+        }
+        put_step(page, sink, job, &entry.step)
+    }
+
+    /// Puts the trace lines of a channel.
+    #[tactic(auto, unfolding(crate::specs::Channels::trace_lines, crate::specs::Channels::own_lines))]
+    fn put_trace<K: Sink>(
+        &self,
+        page: &mut Page,
+        sink: &mut K,
+        channel: ChannelId,
+        silent: Option<usize>,
+    ) -> Result<(), Failed>
+        requires few { K.faults sink.old < 2 ^ 64 - 1 }
+        ensures text { Puts (stage (K.written sink.old) (K.count sink.old) page.old)
+            (stage (K.written sink.new) (K.count sink.new) page.new) result
+            (model.trace_lines self.now.job.now self.now.run.now channel silent) }
+        ensures cause { HasCause (K.faults sink.old) (K.faults sink.new) result }
+    {
+        let run = self.run;
+        for (place, entry) in run.entries.iter().enumerate() {
+            if is_step_of(entry, channel) {
+                self.put_entry(page, sink, silent, (place, entry))?;
+            }
+        }
+        Ok(())
+    }
+
+    /// Puts the lines of a channel that has stopped so.
+    #[tactic(auto, unfolding(crate::specs::Channels::channel_lines))]
+    pub(crate) fn put_channel<K: Sink>(
+        &self,
+        page: &mut Page,
+        sink: &mut K,
+        channel: ChannelId,
+        end: &ChannelEnd,
+    ) -> Result<(), Failed>
+        requires listed { model.IsListedEnd end.now }
+        requires few { K.faults sink.old < 2 ^ 64 - 1 }
+        ensures text { Puts (stage (K.written sink.old) (K.count sink.old) page.old)
+            (stage (K.written sink.new) (K.count sink.new) page.new) result
+            (model.channel_lines self.now.job.now self.now.run.now channel end.now) }
+        ensures cause { HasCause (K.faults sink.old) (K.faults sink.new) result }
+    {
+        let run = self.run;
+        put_channel_line(page, sink, channel)?;
+        let silent = silent_place(&run.entries, channel, end);
+        self.put_trace(page, sink, channel, silent)?;
+        put_state(page, sink, end)
+    }
 }

@@ -8,7 +8,7 @@ ghost use Rattle.job_report.specs.Verdicts.{verdict_line};
 ghost use Rattle.fault_codes.specs.Codes.{IsRefusalCode};
 ghost use Rattle.nc_faults.specs.Texts.{refusal_text_of};
 
-use crate::channels::put_channel;
+use crate::channels::JobRun;
 use crate::page::{LINE_ROOM, PAGE_ROOM, Page, TEXT_ROOM, begin_line, flush};
 use crate::verdicts::push_verdict_line;
 use arrayvec::ArrayVec;
@@ -34,44 +34,46 @@ fn channels_of(job: &Job) -> ArrayVec<ChannelId, CHANNEL_LIMIT>
     channels
 }
 
-/// Puts the lines of a channel, by its place among the channels of the job.
-#[tactic(auto, unfolding(crate::specs::Report::lines_at))]
-fn put_channel_at<K: Sink>(
-    page: &mut Page,
-    sink: &mut K,
-    job: &Job,
-    run: &Run,
-    place: usize,
-    channel: ChannelId,
-) -> Result<(), Failed>
-    requires listed { All IsListedEnd run.now.ends }
-    requires few { K.faults sink.old < 2 ^ 64 - 1 }
-    ensures text { Puts (stage (K.written sink.old) (K.count sink.old) page.old)
-        (stage (K.written sink.new) (K.count sink.new) page.new) result
-        (model.lines_at job.now run.now (place, channel)) }
-    ensures cause { HasCause (K.faults sink.old) (K.faults sink.new) result }
-{
-    match run.ends.get(place) {
-        Some(end) => put_channel(page, sink, job, run, channel, end),
-        None => Ok(()),
+impl<'a> JobRun<'a> {
+    /// Puts the lines of a channel, by its place among the channels of the job.
+    #[tactic(auto, unfolding(crate::specs::Report::lines_at))]
+    fn put_channel_at<K: Sink>(
+        &self,
+        page: &mut Page,
+        sink: &mut K,
+        place: usize,
+        channel: ChannelId,
+    ) -> Result<(), Failed>
+        requires listed { All IsListedEnd self.now.run.now.ends }
+        requires few { K.faults sink.old < 2 ^ 64 - 1 }
+        ensures text { Puts (stage (K.written sink.old) (K.count sink.old) page.old)
+            (stage (K.written sink.new) (K.count sink.new) page.new) result
+            (model.lines_at self.now.job.now self.now.run.now (place, channel)) }
+        ensures cause { HasCause (K.faults sink.old) (K.faults sink.new) result }
+    {
+        let run = self.run;
+        match run.ends.get(place) {
+            Some(end) => self.put_channel(page, sink, channel, end),
+            None => Ok(()),
+        }
     }
-}
 
-/// Puts the lines of all channels.
-#[tactic(auto, unfolding(crate::specs::Report::all_lines))]
-fn put_channels<K: Sink>(page: &mut Page, sink: &mut K, job: &Job, run: &Run) -> Result<(), Failed>
-    requires listed { All IsListedEnd run.now.ends }
-    requires few { K.faults sink.old < 2 ^ 64 - 1 }
-    ensures text { Puts (stage (K.written sink.old) (K.count sink.old) page.old)
-        (stage (K.written sink.new) (K.count sink.new) page.new) result
-        (model.all_lines job.now run.now) }
-    ensures cause { HasCause (K.faults sink.old) (K.faults sink.new) result }
-{
-    let channels = channels_of(job);
-    for (place, channel) in channels.as_slice().iter().enumerate() {
-        put_channel_at(page, sink, job, run, place, *channel)?;
+    /// Puts the lines of all channels.
+    #[tactic(auto, unfolding(crate::specs::Report::all_lines))]
+    fn put_channels<K: Sink>(&self, page: &mut Page, sink: &mut K) -> Result<(), Failed>
+        requires listed { All IsListedEnd self.now.run.now.ends }
+        requires few { K.faults sink.old < 2 ^ 64 - 1 }
+        ensures text { Puts (stage (K.written sink.old) (K.count sink.old) page.old)
+            (stage (K.written sink.new) (K.count sink.new) page.new) result
+            (model.all_lines self.now.job.now self.now.run.now) }
+        ensures cause { HasCause (K.faults sink.old) (K.faults sink.new) result }
+    {
+        let channels = channels_of(self.job);
+        for (place, channel) in channels.as_slice().iter().enumerate() {
+            self.put_channel_at(page, sink, place, *channel)?;
+        }
+        Ok(())
     }
-    Ok(())
 }
 
 /// Puts the line of a job whose blocks may compensate the radius of a tool: its contour is judged.
@@ -126,7 +128,7 @@ pub(crate) fn write_report<K: Sink>(
     ensures empty { OnOk result (page.new ≡ []) }
 {
     push_head(page, job.compensation);
-    put_channels(page, sink, job, run)?;
+    JobRun { job, run }.put_channels(page, sink)?;
     put_verdict(page, sink, verdict)?;
     flush(page, sink)
 }

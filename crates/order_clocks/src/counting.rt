@@ -7,7 +7,7 @@ ghost use Rattle.std.specs.Prelude.{◌<◌, ◌^◌, length, IfOk};
 ghost use Rattle.sync_types.specs.Boards.{Board};
 
 use crate::clocks::Clocks;
-use crate::reader::{Reader, StepRead};
+use crate::reader::{Reader, Replay, StepRead};
 use crate::search::Search;
 use counter_rows::{Row, RowTable};
 use out_of_memory::NoMemory;
@@ -30,6 +30,10 @@ pub(crate) fn read_run(
 {
     let _zero = Row::zero();
     let first = Reader::new(alloc, entries, ends)?;
+    let replay = Replay {
+        entries,
+        first: &first,
+    };
     let mut reader = first.copied()?;
     let mut search = Search::new(alloc)?;
     let mut read = StepRead::none();
@@ -37,7 +41,7 @@ pub(crate) fn read_run(
     let mut table = RowTable::new(alloc, entries.len(), entries.len())?;
     for place in 0..entries.len() {
         reader.next(entries, place, &mut read);
-        search.look(&first, entries, place, &read, &reader.watch)?;
+        search.look(&replay, place, &read, &reader.watch)?;
         table.push(&read.rows, &goers(&read.deed.goes))?;
     }
     Ok(Clocks::of(table, search.race))

@@ -13,12 +13,11 @@ ghost use Rattle.step_deeds.specs.Holds.{BeginsAtMark, DepartsFromMark, departur
 use crate::Times;
 use crate::stops::{Stops, stops_of};
 use crate::watch::Watch;
-use axis_sets::ChannelId;
 use counter_rows::{Row, StepRows};
 use out_of_memory::NoMemory;
 use std::alloc::Global;
 use step_deeds::Deed;
-use sync_types::{ChannelEnd, Entry, Go, Step};
+use sync_types::{ChannelEnd, Entry};
 
 /// What happens in a step, and the counters of its events.
 #[derive(Clone, Copy)]
@@ -49,48 +48,13 @@ pub(crate) struct Reader {
     pub(crate) times: Times,
 }
 
-/// Who acts in an entry.
-fn channel_of(entry: &Entry) -> ChannelId
-    ensures { result ≡ entry.now.channel }
-{
-    entry.channel
-}
-
-/// What it does.
-fn step_of(entry: &Entry) -> &Step
-    ensures { result.now ≡ entry.now.step }
-{
-    &entry.step
-}
-
-/// Who goes on in it: at most eight.
-pub(crate) fn goes_of(entry: &Entry) -> &[Go]
-    ensures goes { result.now ≡ entry.now.goes }
-    ensures few { length result.now ≤ CHANNEL_LIMIT }
-{
-    entry.goes.as_slice()
-}
-
-/// Reads the next entry, and puts what happens in the place of an earlier one.
-pub(crate) fn tell_entry(watch: &mut Watch, entry: &Entry, alarms: bool, deed: &mut Deed)
-    requires sound { WatchIsSound watch.old }
-    ensures sound { WatchIsSound watch.new }
-    ensures reads { (b : Board) → Keeps watch.old b → IsLawful b entry.now.channel entry.now.step entry.now.goes alarms
-        → IsRead deed.new (happening_of b entry.now.channel entry.now.step) }
-    ensures keeps { (b : Board) → Keeps watch.old b → IsLawful b entry.now.channel entry.now.step entry.now.goes alarms
-        → Keeps watch.new (after_step b entry.now.channel entry.now.step) }
-    ensures departures { (c : ℕ) → DepartsFromMark (departure_of deed.new c) }
-    ensures begins { BeginIsSound deed.new.begins }
-    ensures none { goes_in deed.new 0 ≡ false }
-    ensures size { length deed.new.goes ≡ CHANNEL_PLACES }
-{
-    watch.tell(
-        channel_of(entry),
-        step_of(entry),
-        goes_of(entry),
-        alarms,
-        deed,
-    );
+/// A run that can be read once more: its entries, and a reader before the first of them.
+#[derive(Drop)]
+pub(crate) struct Replay<'a> {
+    /// The entries.
+    pub(crate) entries: &'a [Entry],
+    /// The reader.
+    pub(crate) first: &'a Reader,
 }
 
 impl Reader {
@@ -137,7 +101,7 @@ impl Reader {
         let _zero = Row::zero();
         let entry = &entries[place];
         let alarms = self.stops.is_at(entry, place);
-        tell_entry(&mut self.watch, entry, alarms, &mut read.deed);
+        self.watch.tell(entry, alarms, &mut read.deed);
         self.times.step(&read.deed, &mut read.rows);
     }
 }

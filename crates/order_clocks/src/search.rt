@@ -17,11 +17,11 @@ ghost use Rattle.step_deeds.specs.Holds.{BeginsAtMark, DepartsFromMark, departur
 use crate::events::{EVENT_PLACES, Event, put_events, put_waits};
 use crate::pairs::{Meeting, least_between};
 use crate::places::Places;
-use crate::reader::{Reader, StepRead};
+use crate::reader::{Replay, StepRead};
 use crate::watch::Watch;
 use out_of_memory::NoMemory;
 use std::alloc::Global;
-use sync_types::{Entry, Race};
+use sync_types::Race;
 
 /// The first race so far; and the last events that left a trace, as long as there is none.
 #[derive(Drop)]
@@ -48,64 +48,32 @@ pub(crate) fn least_within(
 /// The least of the races so far and those of a step with the steps before it. `NoMemory` where there is too
 /// little to read these once more.
 pub(crate) fn least_before(
-    first: &Reader,
-    entries: &[Entry],
+    replay: &Replay<'_>,
     place: usize,
     lates: &[Option<Event>; EVENT_PLACES],
     start: Option<Race>,
 ) -> Result<Option<Race>, NoMemory>
-    requires place { place ≤ length entries.now }
-    requires few { length entries.now < 2 ^ 32 }
-    requires reader { (b : Board) × IsReaderAt b entries.now 0 first.now }
-    ensures { (b : Board) (late : Deed) (rows : StepRows) → IsReaderAt b entries.now 0 first.now
-        → IsKnownStep (course_of b (moves_in entries.now)) (tracks_of b (moves_in entries.now)) place late rows
+    requires place { place ≤ length replay.now.entries.now }
+    requires few { length replay.now.entries.now < 2 ^ 32 }
+    requires reader { (b : Board) × IsReaderAt b replay.now.entries.now 0 replay.now.first.now }
+    ensures { (b : Board) (late : Deed) (rows : StepRows)
+        → IsReaderAt b replay.now.entries.now 0 replay.now.first.now
+        → IsKnownStep (course_of b (moves_in replay.now.entries.now))
+        (tracks_of b (moves_in replay.now.entries.now)) place late rows
         → AreEvents late rows lates.now
-        → IfOk result (IsLeastWith (IsEarlierRace (course_of b (moves_in entries.now))
-        (tracks_of b (moves_in entries.now)) place place) start) }
+        → IfOk result (IsLeastWith (IsEarlierRace (course_of b (moves_in replay.now.entries.now))
+        (tracks_of b (moves_in replay.now.entries.now)) place place) start) }
 {
-    let mut reader = first.copied()?;
+    let mut reader = replay.first.copied()?;
     let mut least = start;
     let mut earlies = [None; EVENT_PLACES];
     let mut read = StepRead::none();
     for j in 0..place {
-        reader.next(entries, j, &mut read);
+        reader.next(replay.entries, j, &mut read);
         put_events(&read.deed, &read.rows, &mut earlies);
         least = least_between(&Meeting::Later, &earlies, lates, least);
     }
     Ok(least)
-}
-
-/// The least race of a step, where there was none before it. The steps before it are read once more only
-/// where there is one with them: `NoMemory` where there is too little for that. The events and the waits are put
-/// in the room that is given for them.
-pub(crate) fn least_at(
-    places: &Places,
-    first: &Reader,
-    entries: &[Entry],
-    place: usize,
-    read: &StepRead,
-    watch: &Watch,
-    events: &mut [Option<Event>; EVENT_PLACES],
-    waits: &mut [Option<Event>; EVENT_PLACES],
-) -> Result<Option<Race>, NoMemory>
-    requires place { place ≤ length entries.now }
-    requires few { length entries.now < 2 ^ 32 }
-    requires reader { (b : Board) × IsReaderAt b entries.now 0 first.now }
-    requires departures { (c : ℕ) → DepartsFromMark (departure_of read.now.deed c) }
-    requires begins { BeginsAtMark read.now.deed.begins }
-    ensures { (b : Board) → IsReaderAt b entries.now 0 first.now
-        → IsReadAt b (moves_in entries.now) place read.now watch.now
-        → AreLast (course_of b (moves_in entries.now)) (tracks_of b (moves_in entries.now)) place places.now
-        → place < length entries.now → IfOk result (IsLeastWith (IsRace b (moves_in entries.now) place) None) }
-{
-    put_events(&read.deed, &read.rows, events);
-    put_waits(&watch.holds, waits);
-    let within = least_within(events, waits);
-    if places.is_racy(&read.deed, &read.rows) {
-        least_before(first, entries, place, events, within)
-    } else {
-        Ok(within)
-    }
 }
 
 impl Search {
@@ -122,24 +90,56 @@ impl Search {
         })
     }
 
+    /// The least race of a step, where there was none before it. The steps before it are read once more only
+    /// where there is one with them: `NoMemory` where there is too little for that. The events and the waits are
+    /// put in the room that is kept for them.
+    fn least_at(
+        &mut self,
+        replay: &Replay<'_>,
+        place: usize,
+        read: &StepRead,
+        watch: &Watch,
+    ) -> Result<Option<Race>, NoMemory>
+        requires place { place ≤ length replay.now.entries.now }
+        requires few { length replay.now.entries.now < 2 ^ 32 }
+        requires reader { (b : Board) × IsReaderAt b replay.now.entries.now 0 replay.now.first.now }
+        requires departures { (c : ℕ) → DepartsFromMark (departure_of read.now.deed c) }
+        requires begins { BeginsAtMark read.now.deed.begins }
+        ensures places { self.new.places ≡ self.old.places }
+        ensures race { (b : Board) → IsReaderAt b replay.now.entries.now 0 replay.now.first.now
+            → IsReadAt b (moves_in replay.now.entries.now) place read.now watch.now
+            → AreLast (course_of b (moves_in replay.now.entries.now))
+            (tracks_of b (moves_in replay.now.entries.now)) place self.old.places
+            → place < length replay.now.entries.now
+            → IfOk result (IsLeastWith (IsRace b (moves_in replay.now.entries.now) place) None) }
+    {
+        put_events(&read.deed, &read.rows, &mut self.events);
+        put_waits(&watch.holds, &mut self.waits);
+        let within = least_within(&self.events, &self.waits);
+        if self.places.is_racy(&read.deed, &read.rows) {
+            least_before(replay, place, &self.events, within)
+        } else {
+            Ok(within)
+        }
+    }
+
     /// Searches the next step. `NoMemory` where there is too little to read the steps before it once more.
     pub(crate) fn look(
         &mut self,
-        first: &Reader,
-        entries: &[Entry],
+        replay: &Replay<'_>,
         place: usize,
         read: &StepRead,
         watch: &Watch,
     ) -> Result<(), NoMemory>
-        requires place { place < length entries.now }
-        requires few { length entries.now < 2 ^ 32 }
-        requires reader { (b : Board) × IsReaderAt b entries.now 0 first.now }
+        requires place { place < length replay.now.entries.now }
+        requires few { length replay.now.entries.now < 2 ^ 32 }
+        requires reader { (b : Board) × IsReaderAt b replay.now.entries.now 0 replay.now.first.now }
         requires departures { (c : ℕ) → DepartsFromMark (departure_of read.now.deed c) }
         requires begins { BeginsAtMark read.now.deed.begins }
-        ensures { (b : Board) → IsReaderAt b entries.now 0 first.now
-            → IsReadAt b (moves_in entries.now) place read.now watch.now
-            → IsSearched b (moves_in entries.now) place self.old
-            → IsOk result → IsSearched b (moves_in entries.now) (suc place) self.new }
+        ensures { (b : Board) → IsReaderAt b replay.now.entries.now 0 replay.now.first.now
+            → IsReadAt b (moves_in replay.now.entries.now) place read.now watch.now
+            → IsSearched b (moves_in replay.now.entries.now) place self.old
+            → IsOk result → IsSearched b (moves_in replay.now.entries.now) (suc place) self.new }
     {
         match self.race {
             Some(_) => Ok(()),
@@ -148,16 +148,7 @@ impl Search {
                 if read.deed.is_traceless() {
                     return Ok(());
                 }
-                self.race = least_at(
-                    &self.places,
-                    first,
-                    entries,
-                    place,
-                    read,
-                    watch,
-                    &mut self.events,
-                    &mut self.waits,
-                )?;
+                self.race = self.least_at(replay, place, read, watch)?;
                 self.places.note(&read.deed, &read.rows);
                 Ok(())
             }

@@ -5,7 +5,6 @@ ghost use Rattle.order_clocks.specs.StepReading.{IsAtStep, IsReadStep};
 ghost use Rattle.order_clocks.specs.Stops.{IsWhole};
 ghost use Rattle.sync_types.specs.Boards.{Board};
 
-use crate::reader::tell_entry;
 use crate::stops::{Stops, stops_of};
 use crate::watch::Watch;
 use step_deeds::Deed;
@@ -51,7 +50,7 @@ impl StepReader {
         let entry = &entries[place];
         let alarms = self.stops.is_at(entry, place);
         let mut deed = Deed::none();
-        tell_entry(&mut self.watch, entry, alarms, &mut deed);
+        self.watch.tell(entry, alarms, &mut deed);
         ReadStep { deed, alarms }
     }
 }

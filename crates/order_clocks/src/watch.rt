@@ -1,5 +1,5 @@
 //! Reads the steps of a run from its entries.
-ghost use Rattle.axis_sets.specs.declared.limits.TheConstants.{CHANNEL_PLACES};
+ghost use Rattle.axis_sets.specs.declared.limits.TheConstants.{CHANNEL_LIMIT, CHANNEL_PLACES};
 ghost use Rattle.std.specs.List.{list_any};
 ghost use Rattle.std.specs.Prelude.{◌≡◌, [], List, Option, Some, ℕ, ◌<◌, ◌≤◌, ◌==◌, ◌&&◌, ◌||◌, not, Bool, false, true, find, is_some, None, if◌then◌else◌, slice_index, slice_index_or, length, map, option_copied, option_map};
 ghost use Rattle.axis_sets.specs.Positions.{position_of};
@@ -17,7 +17,7 @@ use crate::groups::groups_of;
 use axis_sets::{AxisId, AxisSet, CHANNEL_PLACES, ChannelId, ChannelSet, MarkSet, Positions};
 use std::marker::Model;
 use step_deeds::{Deed, Departure, HoldAtLine, clear_goes, marks_left, took_of};
-use sync_types::{Go, Step};
+use sync_types::{Entry, Go, Step};
 
 /// The marks that stand and for what channels wait, by their numbers.
 #[derive(Clone, Copy)]
@@ -139,30 +139,27 @@ impl Watch {
 }
 
 impl Watch {
-    /// Reads a step, and goes on to the next: who acts, with what, and who goes on. It is put in the place of
-    /// an earlier one.
-    pub(crate) fn tell(
-        &mut self,
-        channel: ChannelId,
-        step: &Step,
-        goes: &[Go],
-        alarms: bool,
-        deed: &mut Deed,
-    )
+    /// Reads an entry, and goes on to the next: who acts, with what, and who goes on. What happens is put in the
+    /// place of an earlier deed.
+    pub(crate) fn tell(&mut self, entry: &Entry, alarms: bool, deed: &mut Deed)
         requires sound { WatchIsSound self.old }
         ensures sound { WatchIsSound self.new }
-        ensures reads { (b : Board) → Keeps self.old b → IsLawful b channel step.now goes.now alarms
-            → IsRead deed.new (happening_of b channel step.now) }
-        ensures keeps { (b : Board) → Keeps self.old b → IsLawful b channel step.now goes.now alarms
-            → Keeps self.new (after_step b channel step.now) }
+        ensures reads { (b : Board) → Keeps self.old b
+            → IsLawful b entry.now.channel entry.now.step entry.now.goes alarms
+            → IsRead deed.new (happening_of b entry.now.channel entry.now.step) }
+        ensures keeps { (b : Board) → Keeps self.old b
+            → IsLawful b entry.now.channel entry.now.step entry.now.goes alarms
+            → Keeps self.new (after_step b entry.now.channel entry.now.step) }
         ensures departures { (c : ℕ) → DepartsFromMark (departure_of deed.new c) }
         ensures begins { BeginIsSound deed.new.begins }
         ensures none { goes_in deed.new 0 ≡ false }
         ensures size { length deed.new.goes ≡ CHANNEL_PLACES }
     {
+        let channel = channel_of(entry);
+        let step = step_of(entry);
         let act = changes_of(channel, &step.action, self.own(channel), alarms);
         self.open(channel, step.line, &act);
-        self.depart(goes, &mut deed.goes, &mut deed.group);
+        self.depart(goes_of(entry), &mut deed.goes, &mut deed.group);
         let touches = touches_of(&step.action);
         put_act(channel, step.line, &act, touches, deed);
     }
@@ -173,6 +170,28 @@ impl Watch {
     {
         self.marks[usize::from(channel.number)]
     }
+}
+
+/// Who acts in an entry.
+fn channel_of(entry: &Entry) -> ChannelId
+    ensures { result ≡ entry.now.channel }
+{
+    entry.channel
+}
+
+/// What it does.
+fn step_of(entry: &Entry) -> &Step
+    ensures { result.now ≡ entry.now.step }
+{
+    &entry.step
+}
+
+/// Who goes on in it: at most eight.
+fn goes_of(entry: &Entry) -> &[Go]
+    ensures goes { result.now ≡ entry.now.goes }
+    ensures few { length result.now ≤ CHANNEL_LIMIT }
+{
+    entry.goes.as_slice()
 }
 
 /// Puts down who acts, at which line, and what the act changes.

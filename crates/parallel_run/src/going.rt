@@ -18,90 +18,91 @@ use std::alloc::Global;
 use std::sync::Wait;
 use sync_types::{ChannelEnd, Grant, Item, Run, StartState};
 
-/// A channel that runs with this grant makes its segment and its step.
-fn turn(
-    alloc: Global,
-    job: &Job,
-    channel: ChannelId,
-    grant: &Grant,
-    board: &mut Board,
-    locals: &mut Locals,
-    items: &mut Vec<Vec<Item>>,
-) -> Result<(), NoMemory>
-    requires blocks { BlocksFit job.now }
-    requires programs { length job.now.programs ≤ PROGRAM_LIMIT }
-    requires runs { grant_in ((replayed board.old).state channel) ≡ Some grant.now }
-    requires ready { AreReady job.now locals.old.items }
-    ensures ready { OnOk result (AreReady job.now locals.new.items) }
-    ensures turn { OnOk result (IsTurn job.now channel grant.now board.old (map (λ items. items.items) items.old.items)
-        locals.old.items board.new (map (λ items. items.items) items.new.items) locals.new.items) }
-{
-    let place = usize::from(channel.number);
-    let local = locals[place].take();
-    let Segment {
-        items: done,
-        step,
-        after,
-    } = next_segment(alloc, job, channel, local, grant)?;
-    board.act(channel, step)?;
-    items.push(done)?;
-    locals[place] = Some(after);
-    Ok(())
+/// A run that is not over.
+#[derive(Drop)]
+pub(crate) struct RunSoFar {
+    /// The board of its entries.
+    pub(crate) board: Board,
+    /// What is kept of each channel after its last segment.
+    pub(crate) locals: Locals,
+    /// What the channel of each entry did before it.
+    pub(crate) items: Vec<Vec<Item>>,
 }
 
-/// The run of a board, with these items and ends.
-fn whole_run(board: Board, items: Vec<Vec<Item>>, ends: ArrayVec<ChannelEnd, CHANNEL_LIMIT>) -> Run
-    ensures entries { result.entries ≡ board.entries }
-    ensures items { result.items ≡ map (λ items. items.items) items.items }
-    ensures ends { result.ends ≡ ends.items }
-{
-    Run {
-        entries: board.into_entries(),
-        items,
-        ends,
+impl RunSoFar {
+    /// A channel that runs with this grant makes its segment and its step.
+    fn turn(
+        &mut self,
+        alloc: Global,
+        job: &Job,
+        channel: ChannelId,
+        grant: &Grant,
+    ) -> Result<(), NoMemory>
+        requires blocks { BlocksFit job.now }
+        requires programs { length job.now.programs ≤ PROGRAM_LIMIT }
+        requires runs { grant_in ((replayed self.old.board).state channel) ≡ Some grant.now }
+        requires ready { AreReady job.now self.old.locals.items }
+        ensures ready { OnOk result (AreReady job.now self.new.locals.items) }
+        ensures turn { OnOk result (IsTurn job.now channel grant.now self.old.board
+            (map (λ items. items.items) self.old.items.items) self.old.locals.items self.new.board
+            (map (λ items. items.items) self.new.items.items) self.new.locals.items) }
+    {
+        let place = usize::from(channel.number);
+        let local = self.locals[place].take();
+        let Segment {
+            items: done,
+            step,
+            after,
+        } = next_segment(alloc, job, channel, local, grant)?;
+        self.board.act(channel, step)?;
+        self.items.push(done)?;
+        self.locals[place] = Some(after);
+        Ok(())
     }
-}
 
-/// Lets what still runs go on, the lowest channel first, until none runs: the whole run. Each channel runs with a grant that fits
-/// it, since the run so far is one of the job.
-pub(crate) fn go_on<R: Wait>(
-    rt: &R,
-    alloc: Global,
-    job: &Job,
-    start: &StartState,
-    board: Board,
-    locals: Locals,
-    items: Vec<Vec<Item>>,
-) -> Result<Run, NoMemory>
-    requires blocks { BlocksFit job.now }
-    requires programs { length job.now.programs ≤ PROGRAM_LIMIT }
-    requires ready { AreReady job.now locals.items }
-    requires start { board.start ≡ start.now }
-    requires made { IsMadeByScript job.now start.now board.entries
-        (map (λ items. items.items) items.items) locals.items }
-    ensures maximal { IfOk result (IsMaximalRunOf job.now start.now) }
-    ensures goes_on { IfOk result (λ run. GoOnWith start.now board.entries run.entries) }
-{
-    let mut board = board;
-    let mut locals = locals;
-    let mut items = items;
-    'turns: for _ in rt.forever() {
-        let Some(channel) = board.lowest_running() else {
-            let ends = ends_of(&board, start);
-            return Ok(whole_run(board, items, ends));
-        };
-        let Some(grant) = board.grant_of(channel) else {
-            unreachable!()
-        };
-        turn(
-            alloc,
-            job,
-            channel,
-            &grant,
-            &mut board,
-            &mut locals,
-            &mut items,
-        )?;
+    /// The run of the board, with these ends.
+    fn whole(self, ends: ArrayVec<ChannelEnd, CHANNEL_LIMIT>) -> Run
+        ensures entries { result.entries ≡ self.board.entries }
+        ensures items { result.items ≡ map (λ items. items.items) self.items.items }
+        ensures ends { result.ends ≡ ends.items }
+    {
+        let RunSoFar { board, items, .. } = self;
+        Run {
+            entries: board.into_entries(),
+            items,
+            ends,
+        }
     }
-    unreachable!()
+
+    /// Lets what still runs go on, the lowest channel first, until none runs: the whole run. Each channel runs with a grant that
+    /// fits it, since the run so far is one of the job.
+    pub(crate) fn go_on<R: Wait>(
+        self,
+        rt: &R,
+        alloc: Global,
+        job: &Job,
+        start: &StartState,
+    ) -> Result<Run, NoMemory>
+        requires blocks { BlocksFit job.now }
+        requires programs { length job.now.programs ≤ PROGRAM_LIMIT }
+        requires ready { AreReady job.now self.locals.items }
+        requires start { self.board.start ≡ start.now }
+        requires made { IsMadeByScript job.now start.now self.board.entries
+            (map (λ items. items.items) self.items.items) self.locals.items }
+        ensures maximal { IfOk result (IsMaximalRunOf job.now start.now) }
+        ensures goes_on { IfOk result (λ run. GoOnWith start.now self.board.entries run.entries) }
+    {
+        let mut run = self;
+        'turns: for _ in rt.forever() {
+            let Some(channel) = run.board.lowest_running() else {
+                let ends = ends_of(&run.board, start);
+                return Ok(run.whole(ends));
+            };
+            let Some(grant) = run.board.grant_of(channel) else {
+                unreachable!()
+            };
+            run.turn(alloc, job, channel, &grant)?;
+        }
+        unreachable!()
+    }
 }

@@ -9,7 +9,7 @@ ghost use Rattle.parallel_run.specs.Workers.{HasMade};
 ghost use Rattle.sync_types.specs.Boards.{among};
 ghost use Rattle.sync_types.specs.Starts.{has_channel};
 
-use crate::going::go_on;
+use crate::going::RunSoFar;
 use crate::parts::{Parts, parts_of};
 use crate::worked::Worked;
 use axis_sets::ChannelId;
@@ -95,5 +95,10 @@ pub fn join_workers<R: Wait>(
     let parts = parts_of(alloc, workers)?;
     let Parts { rows, locals } = parts;
     let items = deal(alloc, rows, board.entries())?;
-    go_on(rt, alloc, job, start, board, locals, items)
+    let run = RunSoFar {
+        board,
+        locals,
+        items,
+    };
+    run.go_on(rt, alloc, job, start)
 }

@@ -16,4 +16,4 @@ mod worker;
 pub use joining::join_workers;
 pub use run::run_threads;
 pub use worked::Worked;
-pub use worker::work;
+pub use worker::{JobChannel, work};

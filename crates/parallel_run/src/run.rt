@@ -11,12 +11,12 @@ ghost use Rattle.ticket_board.specs.Passes.{TicketPassView};
 use crate::joining::{join_workers, passes_and_workers};
 use crate::meeting::Meeting;
 use crate::worked::Worked;
-use crate::worker::work;
+use crate::worker::{JobChannel, work};
 use channel_machine::start_state;
 use edge_io::Gate;
 use job_types::Job;
 use out_of_memory::NoMemory;
-use std::alloc::{AllocError, Global};
+use std::alloc::Global;
 use std::sync::Wait;
 use std::thread;
 use std::thread::Threads;
@@ -48,16 +48,16 @@ impl Lends for Job {
 /// What a worker brings back: its pass, and what it has made.
 type Back = (TicketPass, Result<Worked, NoMemory>);
 
-/// A worker for each pass, each in a thread of its own, until all of them are joined. Each brings its pass back.
+/// A worker for each pass, each in a thread of its own, until all of them are joined: they begin once all have come. Each
+/// brings its pass back.
 fn work_all<R: Threads + Wait + Sync, J: Lends + Sync, G: Gate + Sync>(
     rt: &R,
     alloc: Global,
     lender: &J,
     board: &TicketBoard,
-    meeting: &Meeting,
     gate: &G,
     passes: Vec<TicketPass>,
-) -> Result<Vec<Back>, AllocError>
+) -> Result<Vec<Back>, NoMemory>
     requires blocks { BlocksFit (J.lent lender.now) }
     requires programs { length (J.lent lender.now).programs ≤ PROGRAM_LIMIT }
     requires passes { All (IsFirstPass board.now) passes.items }
@@ -65,7 +65,9 @@ fn work_all<R: Threads + Wait + Sync, J: Lends + Sync, G: Gate + Sync>(
     ensures back { IfOk result (λ back. (k : ℕ) (p : TicketPassView) (d : BackView) → k < length passes.items
         → IsBack (J.lent lender.now) board.now (slice_index_or passes.items k p) (slice_index_or back.items k d)) }
 {
-    thread::map_vec(
+    let meeting = Meeting::new(alloc, passes.len())?;
+    let meeting = &meeting;
+    Ok(thread::map_vec(
         rt,
         passes,
         &|pass: TicketPass| -> (TicketPass, Result<Worked, NoMemory>)
@@ -79,13 +81,17 @@ fn work_all<R: Threads + Wait + Sync, J: Lends + Sync, G: Gate + Sync>(
             let (all_come, seat) = meeting.all_come();
             drop(seat);
             if all_come {
-                let worked = work(rt, alloc, lender.lend(), board, gate, channel, &mut pass);
+                let own = JobChannel {
+                    job: lender.lend(),
+                    channel,
+                };
+                let worked = work(rt, alloc, &own, board, gate, &mut pass);
                 (pass, worked)
             } else {
                 (pass, Ok(Worked::new(alloc, channel)))
             }
         },
-    )
+    )?)
 }
 
 /// Runs a job with a worker for each channel, each in a thread of its own. They meet at a board of tickets and are joined; each
@@ -109,8 +115,7 @@ pub fn run_threads<R: Threads + Wait + Sync, G: Gate + Sync>(
 {
     let start = start_state(job);
     let (board, passes) = TicketBoard::new(alloc, &start)?;
-    let meeting = Meeting::new(alloc, passes.len())?;
-    let back = work_all(rt, alloc, job, &board, &meeting, gate, passes)?;
+    let back = work_all(rt, alloc, job, &board, gate, passes)?;
     let (passes, workers) = passes_and_workers(alloc, back)?;
     let board = board.finish(passes);
     join_workers(rt, alloc, job, &start, board, workers)

@@ -15,6 +15,15 @@ use out_of_memory::NoMemory;
 use std::alloc::Global;
 use std::sync::Wait;
 
+/// A channel of a job.
+#[derive(Clone, Copy)]
+pub struct JobChannel<'a> {
+    /// The job.
+    pub job: &'a Job,
+    /// The channel.
+    pub channel: ChannelId,
+}
+
 /// Makes the segments and the steps of a channel, each after the gate, until the channel is done, the run is over or the board
 /// is closed. It stops at a grant that does not fit the channel. Where it finds no memory itself it closes the board; the only
 /// error is want of memory, its own or another's.
@@ -25,25 +34,26 @@ use std::sync::Wait;
 pub fn work<R: Wait, D: Desk, G: Gate>(
     rt: &R,
     alloc: Global,
-    job: &Job,
+    own: &JobChannel<'_>,
     desk: &D,
     gate: &G,
-    channel: ChannelId,
     pass: &mut D::Pass,
 ) -> Result<Worked, NoMemory>
-    requires blocks { BlocksFit job.now }
-    requires programs { length job.now.programs ≤ PROGRAM_LIMIT }
+    requires blocks { BlocksFit own.now.job.now }
+    requires programs { length own.now.job.now.programs ≤ PROGRAM_LIMIT }
     requires fits { D.fits desk.now pass.old }
-    requires fresh { TellsNothingYet channel (D.tells pass.old) }
+    requires fresh { TellsNothingYet own.now.channel (D.tells pass.old) }
     ensures fits { D.fits desk.now pass.new }
-    ensures channel { IfOk result (λ w. w.channel ≡ channel) }
-    ensures ready { IfOk result (CanGoOn job.now) }
-    ensures own { TellsOn (IsOwnLater job.now channel) (D.tells pass.old) (D.tells pass.new) }
-    ensures made { IfOk result (λ w. TellsMade job.now w (D.tells pass.new)) }
-    ensures ends { IfOk result (λ w. TellsReason job.now w (D.tells pass.new)) }
+    ensures channel { IfOk result (λ w. w.channel ≡ own.now.channel) }
+    ensures ready { IfOk result (CanGoOn own.now.job.now) }
+    ensures own { TellsOn (IsOwnLater own.now.job.now own.now.channel) (D.tells pass.old) (D.tells pass.new) }
+    ensures made { IfOk result (λ w. TellsMade own.now.job.now w (D.tells pass.new)) }
+    ensures ends { IfOk result (λ w. TellsReason own.now.job.now w (D.tells pass.new)) }
     ensures open { IfOk result (λ w. TellsOpen (D.tells pass.new)) }
     ensures shut { OnErr result (TellsShut (D.tells pass.new)) }
 {
+    let job = own.job;
+    let channel = own.channel;
     let mut worked = Worked::new(alloc, channel);
     let mut outcome = desk.wait_start(rt, pass);
     let mut number = 0u32;

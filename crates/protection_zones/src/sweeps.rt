@@ -1,6 +1,7 @@
 //! The boxes of a zone in a span of the channel that holds it.
 ghost use Rattle.std.specs.Prelude.{◌≡◌, ◌<◌, ◌≤◌, ◌^◌, ◌++◌, ◌+◌, [], All, IfOk, OnOk, length, map, is_some};
 ghost use Rattle.std.specs.Option.{option_to_list};
+ghost use Rattle.axis_sets.specs.Sets.{has};
 ghost use Rattle.zone_stretches.specs.Rows.{positions_in};
 ghost use Rattle.protection_zones.specs.Sweeps as model;
 ghost use Rattle.zone_stretches.specs.ZoneBoxes.{IsFit, boxes_of, shown_box};
@@ -11,6 +12,7 @@ ghost use Rattle.sync_types.specs.Items.{movement_of};
 use crate::Row;
 use crate::rows::settle;
 use crate::sights::seen;
+use crate::spans::Outset;
 use arrayvec::ArrayVec;
 use job_types::ZoneLine;
 use micro_units::Um;
@@ -32,33 +34,24 @@ fn cover_of(item: &Item) -> Ranges
     }
 }
 
-/// The box of a zone, from a place on, during the motion of a place that begins with its axes at these positions.
-#[tactic(auto, unfolding(crate::specs::Sweeps::moving_box))]
-fn moving_box(margin: Um, zone: &ZoneLine, from: u32, place: u32, item: &Item, at: &Row) -> ZoneBox
-    requires { IsSound (movement_of item.now) }
-    ensures { result ≡ model.moving_box margin zone.now from place item.now (positions_in at.now) }
-{
-    ZoneBox {
-        line: item.line,
-        motion: Some(place),
-        from,
-        to: from,
-        cover: zone_box(margin, zone, &cover_of(item), at),
-    }
+/// A zone, and the margin about it.
+#[derive(Clone, Copy)]
+pub(crate) struct ZoneShape<'a> {
+    /// The zone.
+    pub(crate) zone: &'a ZoneLine,
+    /// The margin.
+    pub(crate) margin: Um,
 }
 
-/// The box of a zone that stands from a place on.
-#[tactic(auto, unfolding(crate::specs::Sweeps::standing_box))]
-fn standing_box(margin: Um, zone: &ZoneLine, from: u32, line: u32, at: &Row) -> ZoneBox
-    ensures { result ≡ model.standing_box margin zone.now from line (positions_in at.now) }
-{
-    ZoneBox {
-        line,
-        motion: None,
-        from,
-        to: from,
-        cover: standing_zone_box(margin, zone, at),
-    }
+/// What a channel does at a place of a span.
+#[derive(Clone, Copy)]
+struct Deed<'a> {
+    /// The place.
+    place: u32,
+    /// What it does.
+    item: &'a Item,
+    /// Where its axes stand before it.
+    at: &'a Row,
 }
 
 /// The open box with its last place.
@@ -98,74 +91,6 @@ fn ended_before(to: u32, opened: Option<ZoneBox>, sight: Sight) -> Option<ZoneBo
     }
 }
 
-/// What is open from the place of a motion on.
-fn moved_on(
-    margin: Um,
-    zone: &ZoneLine,
-    place: u32,
-    at: &Row,
-    item: &Item,
-    opened: Option<ZoneBox>,
-) -> Option<ZoneBox>
-    requires { IsSound (movement_of item.now) }
-    ensures { result ≡ model.moved_on margin zone.now place (positions_in at.now) item.now opened }
-{
-    match opened {
-        None => None,
-        Some(held) => {
-            let from = if held.motion.is_some() {
-                place
-            } else {
-                held.from
-            };
-            Some(moving_box(margin, zone, from, place, item, at))
-        }
-    }
-}
-
-/// What is open from the place of a switch on.
-fn turned_on(
-    margin: Um,
-    zone: &ZoneLine,
-    place: u32,
-    at: &Row,
-    item: &Item,
-    opened: Option<ZoneBox>,
-) -> Option<ZoneBox>
-    ensures { result ≡ model.turned_on margin zone.now place (positions_in at.now) item.now opened }
-{
-    match opened {
-        None => Some(standing_box(margin, zone, place, item.line, at)),
-        Some(held) => Some(held),
-    }
-}
-
-/// What is open from the place of an item on.
-fn opened_after(
-    margin: Um,
-    zone: &ZoneLine,
-    place: u32,
-    at: &Row,
-    item: &Item,
-    opened: Option<ZoneBox>,
-    sight: Sight,
-) -> Option<ZoneBox>
-    requires { IsSound (movement_of item.now) }
-    ensures { result ≡ model.opened_after margin zone.now place (positions_in at.now) item.now opened sight }
-{
-    match sight {
-        Sight::Nothing => opened,
-        Sight::Turns(on) => {
-            if on {
-                turned_on(margin, zone, place, at, item, opened)
-            } else {
-                None
-            }
-        }
-        Sight::Moves => moved_on(margin, zone, place, at, item, opened),
-    }
-}
-
 /// Adds the box, if there is one.
 fn push_some(boxes: &mut Vec<ZoneBox>, added: Option<ZoneBox>) -> Result<(), AllocError>
     ensures { OnOk result (boxes.new.items ≡ boxes.old.items ++ option_to_list added) }
@@ -179,61 +104,155 @@ fn push_some(boxes: &mut Vec<ZoneBox>, added: Option<ZoneBox>) -> Result<(), All
     }
 }
 
-/// What is open as a span begins.
-fn opened_at_first(margin: Um, zone: &ZoneLine, on: bool, line: u32, at: &Row) -> Option<ZoneBox>
-    ensures { result ≡ model.opened_at_first margin zone.now on line (positions_in at.now) }
-{
-    if on {
-        Some(standing_box(margin, zone, 0, line, at))
-    } else {
-        None
+impl<'a> ZoneShape<'a> {
+    /// The box of the zone, from a place on, during a motion.
+    #[tactic(auto, unfolding(crate::specs::Sweeps::moving_box))]
+    fn moving_box(&self, from: u32, deed: &Deed<'_>) -> ZoneBox
+        requires { IsSound (movement_of deed.now.item.now) }
+        ensures { result ≡ model.moving_box self.now.margin self.now.zone.now from deed.now.place deed.now.item.now
+            (positions_in deed.now.at.now) }
+    {
+        let item = deed.item;
+        ZoneBox {
+            line: item.line,
+            motion: Some(deed.place),
+            from,
+            to: from,
+            cover: zone_box(self.margin, self.zone, &cover_of(item), deed.at),
+        }
     }
-}
 
-/// The boxes of a zone that is on or off as the span begins, with this line and the channel's axes there, while its holder does
-/// nothing.
-pub(crate) fn boxes_at_rest(
-    alloc: Global,
-    margin: Um,
-    zone: &ZoneLine,
-    on: bool,
-    line: u32,
-    start: &Row,
-) -> Result<Vec<ZoneBox>, AllocError>
-    ensures { IfOk result (λ boxes. boxes.items
-        ≡ map (shown_box margin zone.now) (boxes_of zone.now on line (positions_in start.now) [])) }
-{
-    if on {
-        Ok(Vec::from_array(alloc, [standing_box(margin, zone, 0, line, start)])?)
-    } else {
-        Ok(Vec::new(alloc))
+    /// The box of the zone that stands from a place on.
+    #[tactic(auto, unfolding(crate::specs::Sweeps::standing_box))]
+    fn standing_box(&self, from: u32, line: u32, at: &Row) -> ZoneBox
+        ensures { result ≡ model.standing_box self.now.margin self.now.zone.now from line (positions_in at.now) }
+    {
+        ZoneBox {
+            line,
+            motion: None,
+            from,
+            to: from,
+            cover: standing_zone_box(self.margin, self.zone, at),
+        }
     }
-}
 
-/// Writes the boxes of a zone that is on or off as the span begins, with this line and the channel's axes there, while its
-/// holder does this.
-pub(crate) fn write_boxes(
-    boxes: &mut Vec<ZoneBox>,
-    margin: Um,
-    zone: &ZoneLine,
-    on: bool,
-    line: u32,
-    start: &Row,
-    items: &[Item],
-) -> Result<(), AllocError>
-    requires few { length items.now < 2 ^ 32 }
-    requires fit { All IsFit items.now }
-    ensures { OnOk result (boxes.new.items ≡ map (shown_box margin zone.now)
-        (boxes_of zone.now on line (positions_in start.now) items.now)) }
-{
-    boxes.clear();
-    let mut at = *start;
-    let mut opened = opened_at_first(margin, zone, on, line, start);
-    for (place, item) in items.iter().enumerate() {
-        let sight = seen(zone, item);
-        push_some(boxes, ended_before(place as u32, opened, sight))?;
-        opened = opened_after(margin, zone, place as u32 + 1, &at, item, opened, sight);
-        settle(item, &mut at);
+    /// What is open from the place of a motion on.
+    fn moved_on(&self, deed: &Deed<'_>, opened: Option<ZoneBox>) -> Option<ZoneBox>
+        requires { IsSound (movement_of deed.now.item.now) }
+        ensures { result ≡ model.moved_on self.now.margin self.now.zone.now deed.now.place
+            (positions_in deed.now.at.now) deed.now.item.now opened }
+    {
+        match opened {
+            None => None,
+            Some(held) => {
+                let from = if held.motion.is_some() {
+                    deed.place
+                } else {
+                    held.from
+                };
+                Some(self.moving_box(from, deed))
+            }
+        }
     }
-    push_some(boxes, box_until(items.len() as u32, opened))
+
+    /// What is open from the place of a switch on.
+    fn turned_on(&self, deed: &Deed<'_>, opened: Option<ZoneBox>) -> Option<ZoneBox>
+        ensures { result ≡ model.turned_on self.now.margin self.now.zone.now deed.now.place
+            (positions_in deed.now.at.now) deed.now.item.now opened }
+    {
+        match opened {
+            None => Some(self.standing_box(deed.place, deed.item.line, deed.at)),
+            Some(held) => Some(held),
+        }
+    }
+
+    /// What is open from the place of an item on.
+    fn opened_after(
+        &self,
+        deed: &Deed<'_>,
+        opened: Option<ZoneBox>,
+        sight: Sight,
+    ) -> Option<ZoneBox>
+        requires { IsSound (movement_of deed.now.item.now) }
+        ensures { result ≡ model.opened_after self.now.margin self.now.zone.now deed.now.place
+            (positions_in deed.now.at.now) deed.now.item.now opened sight }
+    {
+        match sight {
+            Sight::Nothing => opened,
+            Sight::Turns(on) => {
+                if on {
+                    self.turned_on(deed, opened)
+                } else {
+                    None
+                }
+            }
+            Sight::Moves => self.moved_on(deed, opened),
+        }
+    }
+
+    /// Whether the zone is on as a span begins.
+    fn is_on(&self, begins: &Outset) -> bool
+        ensures { result ≡ has begins.now.on self.now.zone.now.zone }
+    {
+        begins.on.contains(self.zone.zone)
+    }
+
+    /// What is open as a span begins.
+    fn opened_at_first(&self, begins: &Outset) -> Option<ZoneBox>
+        ensures { result ≡ model.opened_at_first self.now.margin self.now.zone.now
+            (has begins.now.on self.now.zone.now.zone) begins.now.line (positions_in begins.now.at) }
+    {
+        if self.is_on(begins) {
+            Some(self.standing_box(0, begins.line, &begins.at))
+        } else {
+            None
+        }
+    }
+
+    /// The boxes of the zone in a span that begins so, while its holder does nothing.
+    pub(crate) fn boxes_at_rest(
+        &self,
+        alloc: Global,
+        begins: &Outset,
+    ) -> Result<Vec<ZoneBox>, AllocError>
+        ensures { IfOk result (λ boxes. boxes.items
+            ≡ map (shown_box self.now.margin self.now.zone.now) (boxes_of self.now.zone.now
+            (has begins.now.on self.now.zone.now.zone) begins.now.line (positions_in begins.now.at) [])) }
+    {
+        if self.is_on(begins) {
+            Ok(Vec::from_array(alloc, [self.standing_box(0, begins.line, &begins.at)])?)
+        } else {
+            Ok(Vec::new(alloc))
+        }
+    }
+
+    /// Writes the boxes of the zone in a span that begins so, while its holder does this.
+    pub(crate) fn write_boxes(
+        &self,
+        boxes: &mut Vec<ZoneBox>,
+        begins: &Outset,
+        items: &[Item],
+    ) -> Result<(), AllocError>
+        requires few { length items.now < 2 ^ 32 }
+        requires fit { All IsFit items.now }
+        ensures { OnOk result (boxes.new.items ≡ map (shown_box self.now.margin self.now.zone.now)
+            (boxes_of self.now.zone.now (has begins.now.on self.now.zone.now.zone) begins.now.line
+            (positions_in begins.now.at) items.now)) }
+    {
+        boxes.clear();
+        let mut at = begins.at;
+        let mut opened = self.opened_at_first(begins);
+        for (place, item) in items.iter().enumerate() {
+            let sight = seen(self.zone, item);
+            push_some(boxes, ended_before(place as u32, opened, sight))?;
+            let deed = Deed {
+                place: place as u32 + 1,
+                item,
+                at: &at,
+            };
+            opened = self.opened_after(&deed, opened, sight);
+            settle(item, &mut at);
+        }
+        push_some(boxes, box_until(items.len() as u32, opened))
+    }
 }

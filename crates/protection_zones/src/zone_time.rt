@@ -13,7 +13,7 @@ ghost use Rattle.zone_stretches.specs.Stretches.{free_stretch, spans_between, st
 ghost use Rattle.zone_stretches.specs.ZoneBoxes.{IsFit, boxes_of, shown_box};
 
 use crate::spans::Outset;
-use crate::sweeps::{boxes_at_rest, write_boxes};
+use crate::sweeps::ZoneShape;
 use crate::tenures::Term;
 use axis_sets::ChannelId;
 use job_types::{Job, ZoneLine};
@@ -30,6 +30,13 @@ pub(crate) struct Scene<'a> {
     pub(crate) zone: &'a ZoneLine,
     /// The items of each entry.
     pub(crate) items: &'a [Vec<Item>],
+}
+
+/// The channel that holds a zone, and how its times begin.
+#[derive(Clone, Copy)]
+struct Holder<'a> {
+    channel: ChannelId,
+    outsets: &'a [Outset],
 }
 
 /// The items of a place; none past the end.
@@ -133,21 +140,14 @@ impl<'a> Scene<'a> {
             (boxes_of self.now.zone.now (has begins.now.on self.now.zone.now.zone) begins.now.line
             (positions_in begins.now.at) items.now)) }
     {
-        let job = self.job;
-        let zone = self.zone;
-        let on = begins.on.contains(zone.zone);
+        let shape = ZoneShape {
+            zone: self.zone,
+            margin: self.job.margin,
+        };
         if items.is_empty() {
-            return boxes_at_rest(alloc, job.margin, zone, on, begins.line, &begins.at);
+            return shape.boxes_at_rest(alloc, begins);
         }
-        write_boxes(
-            scratch,
-            job.margin,
-            zone,
-            on,
-            begins.line,
-            &begins.at,
-            items,
-        )?;
+        shape.write_boxes(scratch, begins, items)?;
         Vec::from_slice(alloc, scratch.as_slice())
     }
 
@@ -156,23 +156,22 @@ impl<'a> Scene<'a> {
         &self,
         alloc: Global,
         scratch: &mut Vec<ZoneBox>,
-        channel: ChannelId,
-        outsets: &[Outset],
+        holder: &Holder<'_>,
         place: usize,
     ) -> Result<Stretch, AllocError>
-        requires place { place < length outsets.now }
+        requires place { place < length holder.now.outsets.now }
         requires few { All (λ done. length done < 2 ^ 32) (all_items self.now.items.now) }
         requires fit { All (All IsFit) (all_items self.now.items.now) }
-        ensures { IfOk result (λ s. s ≡ stretch_of_span self.now.job.now self.now.zone.now channel
-            (span_at (all_items self.now.items.now) outsets.now place)) }
+        ensures { IfOk result (λ s. s ≡ stretch_of_span self.now.job.now self.now.zone.now holder.now.channel
+            (span_at (all_items self.now.items.now) holder.now.outsets.now place)) }
     {
         let zone = self.zone;
-        let begins = &outsets[place];
-        let last = first_at(outsets, place + 1);
+        let begins = &holder.outsets[place];
+        let last = first_at(holder.outsets, place + 1);
         Ok(Stretch {
             name: PlaceName {
                 zone: zone.zone,
-                channel: Some(channel),
+                channel: Some(holder.channel),
                 kind: begins.kind,
                 line: begins.line,
             },
@@ -189,19 +188,18 @@ impl<'a> Scene<'a> {
         alloc: Global,
         scratch: &mut Vec<ZoneBox>,
         stretches: &mut Vec<Stretch>,
-        channel: ChannelId,
-        outsets: &[Outset],
+        holder: &Holder<'_>,
         term: &Term,
     ) -> Result<(), AllocError>
         requires few { All (λ done. length done < 2 ^ 32) (all_items self.now.items.now) }
         requires fit { All (All IsFit) (all_items self.now.items.now) }
         ensures { OnOk result (stretches.new.items ≡ stretches.old.items
-            ++ map (stretch_of_span self.now.job.now self.now.zone.now channel)
-            (spans_between (spans_along (all_items self.now.items.now) (map shown_outset outsets.now))
+            ++ map (stretch_of_span self.now.job.now self.now.zone.now holder.now.channel)
+            (spans_between (spans_along (all_items self.now.items.now) (map shown_outset holder.now.outsets.now))
             term.now.from term.now.upto)) }
     {
-        for place in term.from..end_of(outsets.len(), term.upto) {
-            let stretch = self.held_stretch(alloc, scratch, channel, outsets, place)?;
+        for place in term.from..end_of(holder.outsets.len(), term.upto) {
+            let stretch = self.held_stretch(alloc, scratch, holder, place)?;
             stretches.push(stretch)?;
         }
         Ok(())
@@ -260,14 +258,13 @@ impl<'a> Scene<'a> {
                 stretches.push(stretch)?;
                 Ok(())
             }
-            Some(channel) => self.write_held(
-                alloc,
-                scratch,
-                stretches,
-                channel,
-                own_outsets(outsets, channel),
-                term,
-            ),
+            Some(channel) => {
+                let holder = Holder {
+                    channel,
+                    outsets: own_outsets(outsets, channel),
+                };
+                self.write_held(alloc, scratch, stretches, &holder, term)
+            }
         }
     }
 

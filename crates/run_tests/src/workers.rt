@@ -10,7 +10,7 @@ use coord_core::{Board, Desk, Locked, Outcome};
 use edge_io::OpenGate;
 use job_types::Job;
 use out_of_memory::NoMemory;
-use parallel_run::{Worked, work};
+use parallel_run::{JobChannel, Worked, work};
 use product_run::run_in_order;
 use shared_board::{MemoryDesk, MemoryPass, Pass, SharedBoard};
 use std::alloc::{AllocError, Global};
@@ -104,15 +104,11 @@ fn work_all<R: Threads + Wait + Sync, J: Lends + Sync>(
         {
             let mut pass = pass;
             let channel = pass.channel;
-            work(
-                rt,
-                alloc,
-                lender.lend(),
-                board,
-                &OpenGate,
+            let own = JobChannel {
+                job: lender.lend(),
                 channel,
-                &mut pass,
-            )
+            };
+            work(rt, alloc, &own, board, &OpenGate, &mut pass)
         },
     )
 }
@@ -166,7 +162,8 @@ fn a_worker_has_a_desk_for_itself(rt: HostRuntime) -> Result<(), Fail> {
         channel,
         locked,
     };
-    let worked = work(&rt, alloc, &job, &desk, &OpenGate, channel, &mut pass)?;
+    let own = JobChannel { job: &job, channel };
+    let worked = work(&rt, alloc, &own, &desk, &OpenGate, &mut pass)?;
     assert!(rt; has_made(alloc, &worked, pass.locked.board.entries(), &run)?);
     desk.close(&rt, &mut pass);
     assert!(rt; desk.wait_start(&rt, &mut pass) == Outcome::Closed);

@@ -65,22 +65,28 @@ VERDICT YES
 // The number of a read or a write that never comes.
 const NEVER: u32 = 1000;
 
-// Whether a call with this word ends so and writes this, where reads give pieces of a size and the read of a number fails, and
-// writes take 16 bytes and the write of a number fails.
+// How the streams of a call fail: reads give pieces of a size, and the read and the write of these numbers fail.
+#[derive(Clone, Copy)]
+struct Streams {
+    size: usize,
+    read: u32,
+    write: u32,
+}
+
+// Whether a call with this word ends so and writes this, where its streams fail so, and writes take 16 bytes.
 fn gives<R: Threads + Wait + Sync>(
     rt: &R,
     alloc: Global,
     word: &str,
-    reads: (usize, u32),
-    write: u32,
+    streams: Streams,
     status: Status,
     output: &[u8],
 ) -> Result<bool, AllocError>
-    requires { 0 < reads.0 }
+    requires { 0 < streams.size }
 {
     let input = TURRETS.as_bytes().to_vec(alloc)?;
-    let mut source = MemSource::new(input, reads.0, [reads.1].to_vec(alloc)?);
-    let mut sink = MemSink::new(alloc, 16, [write].to_vec(alloc)?);
+    let mut source = MemSource::new(input, streams.size, [streams.read].to_vec(alloc)?);
+    let mut sink = MemSink::new(alloc, 16, [streams.write].to_vec(alloc)?);
     let ended = run_words(rt, alloc, &[word], &mut source, &mut sink, &OpenGate);
     Ok(ended == status && sink.bytes() == output)
 }
@@ -92,8 +98,13 @@ fn stops_at_each_read_that_fails(rt: HostRuntime) -> Result<(), Fail> {
     for failing in 0..20 {
         let word = if failing < 10 { "check" } else { "run" };
         let read = failing % 10;
+        let streams = Streams {
+            size: 64,
+            read,
+            write: NEVER,
+        };
         assert!(rt;
-            gives(&rt, alloc, word, (64, read), NEVER, Status::ReadFault, &[])?,
+            gives(&rt, alloc, word, streams, Status::ReadFault, &[])?,
             "{failing}"
         );
     }
@@ -115,8 +126,13 @@ fn stops_at_each_write_that_fails(rt: HostRuntime) -> Result<(), Fail> {
             Status::Yes
         };
         let front = output.get(..16 * write as usize).ok_or("a short output")?;
+        let streams = Streams {
+            size: 64,
+            read: 10,
+            write,
+        };
         assert!(rt;
-            gives(&rt, alloc, word, (64, 10), write, status, front)?,
+            gives(&rt, alloc, word, streams, status, front)?,
             "{failing}"
         );
     }
@@ -128,16 +144,13 @@ fn stops_at_each_write_that_fails(rt: HostRuntime) -> Result<(), Fail> {
 fn answers_an_input_in_pieces(rt: HostRuntime) -> Result<(), Fail> {
     let output = TURRETS_OUTPUT.as_bytes();
     for size in [1, 7, 4096] {
+        let streams = Streams {
+            size,
+            read: NEVER,
+            write: NEVER,
+        };
         assert!(rt;
-            gives(
-                &rt,
-                rt.alloc(),
-                "check",
-                (size, NEVER),
-                NEVER,
-                Status::Yes,
-                output
-            )?,
+            gives(&rt, rt.alloc(), "check", streams, Status::Yes, output)?,
             "{size}"
         );
     }

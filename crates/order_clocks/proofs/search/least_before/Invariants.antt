@@ -10,7 +10,7 @@ use Rattle.sync_types.specs.Boards.{Board}
 
 abbrev pub invariant-loop-j : goal.invariant-loop-j
 invariant-loop-j l = record {
-  reader : (b : Board) → IsReaderAt b l.entries 0 l.first → IsReaderAt b l.entries l.j l.reader;
-  least : (b : Board) (late : Deed) (rows : StepRows) → IsReaderAt b l.entries 0 l.first → IsKnownStep (course_of b (moves_in l.entries)) (tracks_of b (moves_in l.entries)) l.place late rows → AreEvents late rows l.lates
-      → IsLeastWith (IsEarlierRace (course_of b (moves_in l.entries)) (tracks_of b (moves_in l.entries)) l.j l.place) l.fn.start l.least;
+  reader : (b : Board) → IsReaderAt b l.replay.entries.now 0 l.replay.first.now → IsReaderAt b l.replay.entries.now l.j l.reader;
+  least : (b : Board) (late : Deed) (rows : StepRows) → IsReaderAt b l.replay.entries.now 0 l.replay.first.now → IsKnownStep (course_of b (moves_in l.replay.entries.now)) (tracks_of b (moves_in l.replay.entries.now)) l.place late rows → AreEvents late rows l.lates
+      → IsLeastWith (IsEarlierRace (course_of b (moves_in l.replay.entries.now)) (tracks_of b (moves_in l.replay.entries.now)) l.j l.place) l.fn.start l.least;
 }

@@ -16,19 +16,19 @@ pub returns-clause-next : goal.returns-clause-next
 returns-clause-next c = λ b reader.
     let one = c.index-entries-place.result in
     let entry = entry_read b c.args.entries.now c.args.place one c.args.self.now c.is_at-alarms.result c.requires.place c.index-entries-place.is reader c.is_at-alarms.ensures in
-    next_reader b c.args.entries.now c.args.place one c.is_at-alarms.result c.tell_entry.new.deed c.args.self.now c.tell_entry.new.watch c.step.new.self entry reader
-    (c.tell_entry.ensures.reads (board_at b (moves_in c.args.entries.now) c.args.place) reader.keeps entry.lawful)
-    c.tell_entry.ensures.sound
-    (c.tell_entry.ensures.keeps (board_at b (moves_in c.args.entries.now) c.args.place) reader.keeps entry.lawful)
+    next_reader b c.args.entries.now c.args.place one c.is_at-alarms.result c.tell.new.deed c.args.self.now c.tell.new.self.watch c.step.new.self entry reader
+    (c.tell.ensures.reads (board_at b (moves_in c.args.entries.now) c.args.place) reader.keeps entry.lawful)
+    c.tell.ensures.sound
+    (c.tell.ensures.keeps (board_at b (moves_in c.args.entries.now) c.args.place) reader.keeps entry.lawful)
     (λ step. c.step.ensures.shows (course_of b (moves_in c.args.entries.now)) c.args.place step reader.shows)
 
 pub returns-clause-read : goal.returns-clause-read
 returns-clause-read c = λ b reader.
     let one = c.index-entries-place.result in
     let entry = entry_read b c.args.entries.now c.args.place one c.args.self.now c.is_at-alarms.result c.requires.place c.index-entries-place.is reader c.is_at-alarms.ensures in
-    read_at b c.args.entries.now c.args.place one c.is_at-alarms.result c.tell_entry.new.deed c.step.new.rows c.tell_entry.new.watch entry
-    (c.tell_entry.ensures.reads (board_at b (moves_in c.args.entries.now) c.args.place) reader.keeps entry.lawful)
-    c.tell_entry.ensures.sound
-    (c.tell_entry.ensures.keeps (board_at b (moves_in c.args.entries.now) c.args.place) reader.keeps entry.lawful)
-    c.tell_entry.ensures.none c.tell_entry.ensures.size
+    read_at b c.args.entries.now c.args.place one c.is_at-alarms.result c.tell.new.deed c.step.new.rows c.tell.new.self.watch entry
+    (c.tell.ensures.reads (board_at b (moves_in c.args.entries.now) c.args.place) reader.keeps entry.lawful)
+    c.tell.ensures.sound
+    (c.tell.ensures.keeps (board_at b (moves_in c.args.entries.now) c.args.place) reader.keeps entry.lawful)
+    c.tell.ensures.none c.tell.ensures.size
     (λ step. c.step.ensures.rows (course_of b (moves_in c.args.entries.now)) c.args.place step reader.shows)
