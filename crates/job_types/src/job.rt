@@ -4,7 +4,9 @@ use indexmap::IndexMap;
 use micro_units::Um;
 use nc_blocks::NameText;
 use nc_control_flow::Flow;
+use nc_variables::VarTable;
 use std::marker::Model;
+use tool_offsets::Tools;
 
 /// An accepted job: the lines of its job list in their order, and its library of programs in the order of the input.
 #[derive(Drop)]
@@ -35,6 +37,14 @@ pub struct Job {
     pub compensation: bool,
     /// Whether blocks that begin with `/` are left out.
     pub skip: bool,
+    /// The tools of each channel that has any, in ascending order of the channels.
+    pub tools: Vec<(ChannelId, Tools)>,
+    /// Whether the least time in which the job is done is told.
+    pub timeline: bool,
+    /// The feeds of channels in millimetres per minute, 1 to 1,000,000; one that no line gives is 1000.
+    pub feeds: Vec<(ChannelId, u32)>,
+    /// How long each motion of a block takes in a channel: the channel, the line of the block, the milliseconds.
+    pub times: Vec<(ChannelId, u32, u32)>,
     /// The programs by their names.
     pub programs: IndexMap<NameText, Program>,
 }
@@ -62,6 +72,10 @@ impl Model for Job {
       budget = j.budget;
       compensation = j.compensation;
       skip = j.skip;
+      tools = j.tools.items;
+      timeline = j.timeline;
+      feeds = j.feeds.items;
+      times = j.times.items;
       programs = j.programs.entries;
     } };
 }
@@ -157,6 +171,8 @@ pub struct Program {
     pub line: u32,
     /// Its blocks, each with the line of the input that it is, and what follows each of them.
     pub flow: Flow,
+    /// Its variables.
+    pub table: VarTable,
 }
 
 impl Model for Program {
@@ -169,5 +185,5 @@ impl Model for Program {
 
     ghost coded = { Prim.hlevel (codes, tree_code) };
 
-    ghost view = { λ p. record { line = p.line; blocks = map block_entry p.flow } };
+    ghost view = { λ p. record { line = p.line; blocks = map block_entry p.flow; table = p.table } };
 }

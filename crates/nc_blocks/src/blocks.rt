@@ -102,6 +102,16 @@ pub enum Stmt {
     Message,
 }
 
+/// What a variable of a program holds.
+#[derive(Clone, Copy, Debug, Default, PartialEq, Eq)]
+pub enum VarKind {
+    /// INT: a whole number.
+    #[default]
+    Int,
+    /// REAL: a number.
+    Real,
+}
+
 /// A word of a word block.
 #[derive(Debug, Drop)]
 pub enum Word {

@@ -13,7 +13,9 @@ mod threads;
 mod wording;
 
 pub use axis_names::{has_axis_name, has_axis_word};
-pub use blocks::{Block, CoordWord, FrameWord, JumpTo, Measure, Operand, Stmt, Target, Way, Word};
+pub use blocks::{
+    Block, CoordWord, FrameWord, JumpTo, Measure, Operand, Stmt, Target, VarKind, Way, Word,
+};
 pub use limits::PASS_LIMIT;
 pub use marks::{
     assign_at, close_at, code_at, comma_at, end_at, is_keyword, is_word, keyword_at, open_at,

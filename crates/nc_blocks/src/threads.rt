@@ -1,7 +1,8 @@
 //! The types whose values may go to another thread, and that threads may share.
 
 use crate::{
-    Block, CoordWord, FrameWord, JumpTo, Measure, NameText, Operand, Stmt, Target, Way, Word,
+    Block, CoordWord, FrameWord, JumpTo, Measure, NameText, Operand, Stmt, Target, VarKind, Way,
+    Word,
 };
 
 /// Asks this of a type, and does nothing: each call is proved.
@@ -18,6 +19,7 @@ fn types_cross_threads() {
     crosses_threads::<Operand>();
     crosses_threads::<Stmt>();
     crosses_threads::<Target>();
+    crosses_threads::<VarKind>();
     crosses_threads::<Way>();
     crosses_threads::<Word>();
 }

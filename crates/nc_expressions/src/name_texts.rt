@@ -21,6 +21,18 @@ impl Model for NameText {
     ghost inverse = { λ bytes. record { bytes = record { items = bytes } } };
 }
 
+impl Default for NameText {
+    ghost use Rattle.std.specs.Prelude.{◌≡◌, []};
+
+    ghost is_default = { λ name. name ≡ [] };
+
+    fn default() -> NameText {
+        NameText {
+            bytes: ArrayVec::new(),
+        }
+    }
+}
+
 impl NameText {
     ghost use Rattle.std.specs.Prelude.{◌≡◌, ◌<◌, ◌≤◌, ◌∷◌, length};
     ghost use Rattle.nc_expressions.specs.NameTexts.{name_of};

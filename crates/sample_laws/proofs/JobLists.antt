@@ -1,5 +1,5 @@
 -- The job list of a sample, line by line.
-use Rattle.std.proofs.Common.{ℕ, pos, true, false, List, [], ◌∷◌, ◌++◌, take, drop, flat_map, codes, refl}
+use Rattle.std.proofs.Common.{ℕ, true, false, List, [], ◌∷◌, ◌++◌, take, drop, flat_map, codes, refl}
 use Rattle.job_types.specs.declared.job.AxisLine.{AxisLine}
 use Rattle.job_types.specs.declared.job.ChannelLine.{ChannelLine}
 use Rattle.job_types.specs.declared.job.GeoLine.{GeoLine}
@@ -12,6 +12,7 @@ use Rattle.job_lines.specs.OptionLines as options
 use Rattle.micro_units.specs.NumberText.{number_of}
 use Rattle.micro_units.specs.Rounding.{half_away}
 use Rattle.sample_jobs.specs.Samples.{list_lines, list_text}
+use Rattle.tape_job.specs.Draft.{no_options, nothing_told}
 use Rattle.tape_job.specs.Lines as lines
 use Rattle.tape_job.specs.Read as reads
 use Rattle.tape_job.specs.Reading as readings
@@ -25,22 +26,13 @@ abbrev listed : List ChannelLine → List AxisLine → List GeoLine → List Zon
 listed some_channels some_axes some_slots some_zones = record {
   seen = true;
   in_programs = false;
-  options = record { margin = false; depth = false; budget = false };
-  job = record {
-    version = 1;
-    number = 1;
+  options = no_options;
+  job = record nothing_told {
     line = 1;
     channels = some_channels;
     axes = some_axes;
     geo = some_slots;
-    offsets = [];
     zones = some_zones;
-    margin = pos 0;
-    depth = 0;
-    budget = 1000000;
-    compensation = false;
-    skip = false;
-    programs = [];
   };
 }
 

@@ -6,10 +6,11 @@ use Rattle.job_types.specs.declared.job.ChannelLine.{ChannelLine}
 use Rattle.job_types.specs.declared.job.GeoLine.{GeoLine}
 use Rattle.job_types.specs.declared.job.Side.{Side}
 use Rattle.job_types.specs.declared.job.ZoneLine.{ZoneLine}
-use Rattle.job_types.specs.Job.{ProgramView}
+use Rattle.job_types.specs.Job.{ProgramView, program_of}
 use Rattle.nc_blocks.specs.Statement.{BlockView}
 use Rattle.nc_control_flow.specs.Nested.{nest_of}
 use Rattle.fault_codes.specs.declared.Refusal.{Refusal}
+use Rattle.tape_job.specs.Draft.{nothing_told}
 use Rattle.tape_job.specs.Lines.{raw_lines, text_of, before_comment, begins_with_percent}
 use Rattle.tape_job.specs.Pieces.{lacks_feed}
 use Rattle.tape_job.specs.Read.{end_of_program, line_trial, trial, end_trial}
@@ -94,20 +95,13 @@ told_at begun programs = record {
   seen = true;
   in_programs = begun;
   options = record { margin = false; depth = false; budget = true };
-  job = record {
-    version = 1;
-    number = 1;
+  job = record nothing_told {
     line = 1;
     channels = channels;
     axes = axes;
     geo = slots;
-    offsets = [];
     zones = zones;
-    margin = pos 0;
-    depth = 0;
     budget = 100000000;
-    compensation = false;
-    skip = false;
     programs = programs;
   };
 }
@@ -116,10 +110,10 @@ told_at begun programs = record {
 
 -- a program after others
 abbrev pub within : List (List ℕ × ProgramView) → List ℕ → ℕ → List (ℕ × BlockView) → List (List ℕ × ProgramView)
-within others name line blocks = others ++ (name, record { line = line; blocks = blocks }) ∷ []
+within others name line blocks = others ++ (name, program_of line blocks) ∷ []
 
 last_within : (others : List (List ℕ × ProgramView)) (name : List ℕ) (line : ℕ) (blocks : List (ℕ × BlockView))
-    → last_program (within others name line blocks) ≡ Some (record { line = line; blocks = blocks })
+    → last_program (within others name line blocks) ≡ Some (program_of line blocks)
 last_within [] name line blocks = refl
 last_within (program ∷ []) name line blocks = refl
 last_within (program ∷ next ∷ others) name line blocks = last_within (next ∷ others) name line blocks

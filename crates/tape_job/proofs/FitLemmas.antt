@@ -8,7 +8,7 @@ use Rattle.tape_job.specs.declared.fault.JobFault.{JobFault}
 use Rattle.tape_job.specs.declared.fault.JobFault.TheVariants.{Refused, NoMemory}
 use Rattle.job_types.specs.declared.job.Job.{Job}
 use Rattle.nc_blocks.specs.Statement.{BlockView}
-use Rattle.job_types.specs.Job.{JobView, ProgramView}
+use Rattle.job_types.specs.Job.{JobView, ProgramView, program_of}
 use Rattle.tape_job.specs.Lines.{Line}
 use Rattle.tape_job.specs.Read.{answer, GivesRead}
 use Rattle.tape_job.specs.Reading.{ReadingView, Blank, First, DeclarationLine, Header, BlockLine, reading_of, ReadingFits}
@@ -49,8 +49,8 @@ one_more (program ∷ []) block = let further = length-append program.1.blocks (
 one_more (program ∷ next ∷ []) block = one_more (next ∷ []) block
 one_more (program ∷ next ∷ third ∷ programs) block = one_more (next ∷ third ∷ programs) block
 
-none_yet : (programs : List (List ℕ × ProgramView)) (name : List ℕ) (number : ℕ) → last_count (programs ++ (name, record { line = number; blocks = [] }) ∷ []) ≡ 0
-none_yet programs name number = ap count_in (last_program_is programs (name, record { line = number; blocks = [] }))
+none_yet : (programs : List (List ℕ × ProgramView)) (name : List ℕ) (number : ℕ) → last_count (programs ++ (name, program_of number []) ∷ []) ≡ 0
+none_yet programs name number = ap count_in (last_program_is programs (name, program_of number []))
 
 reading_short : (job : JobView) (number : ℕ) (read : Result ReadingView ℕ) → last_count (with_line job number read).programs ≤ last_count job.programs + 1
 unfolding with_line

@@ -9,7 +9,7 @@ use Rattle.indexmap.specs.IndexMap.{insert_entry}
 use Rattle.tape_job.specs.Rules.{has_program, last_program, last_count, count_in, structure_fault, structure_rule}
 use Rattle.tape_job.specs.declared.reading.LineFault.{LineFault}
 use Rattle.tape_job.specs.declared.reading.LineFault.TheVariants as fault
-use Rattle.job_types.specs.Job.{ProgramView}
+use Rattle.job_types.specs.Job.{ProgramView, program_of}
 use Rattle.tape_job.proofs.SoundLists.{or_fails}
 use Rattle.tape_job.specs.Steps.{with_entry, with_block, is_last, last_fault, last_with, IsLibrary, Adds}
 use Rattle.nc_blocks.specs.Statement.{BlockView}
@@ -51,7 +51,7 @@ last_program_is (entry ∷ []) last = refl
 last_program_is (entry ∷ next ∷ entries) last = last_program_is (next ∷ entries) last
 
 pub with_block_last : (resolved : List (List ℕ × ProgramView)) (last : List ℕ × ProgramView) (block : ℕ × BlockView)
-    → with_block (resolved ++ last ∷ []) block ≡ resolved ++ (last.0, record { line = last.1.line; blocks = last.1.blocks ++ block ∷ [] }) ∷ []
+    → with_block (resolved ++ last ∷ []) block ≡ resolved ++ (last.0, program_of last.1.line (last.1.blocks ++ block ∷ [])) ∷ []
 with_block_last [] last block = refl
 with_block_last (entry ∷ []) last block = refl
 with_block_last (entry ∷ next ∷ entries) last block = ap (λ more. entry ∷ more) (with_block_last (next ∷ entries) last block)

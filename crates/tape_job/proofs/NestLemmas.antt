@@ -3,7 +3,7 @@ use Rattle.std.proofs.Common.{◌≡◌, ◌∙◌, ℕ, List, [], ◌∷◌, �
 use Rattle.std.proofs.lemmas.List.{map-append}
 use Rattle.std.proofs.lemmas.List.Sums.{fold_push}
 use Rattle.nc_blocks.specs.declared.blocks.Block.{Block}
-use Rattle.job_types.specs.Job.{ProgramView, block_entry}
+use Rattle.job_types.specs.Job.{ProgramView, block_entry, program_of}
 use Rattle.nc_blocks.specs.Statement.{BlockView, Statement, If, Else, EndIf, While, EndWhile, Repeat, Until, Loop, EndLoop, For, EndFor}
 use Rattle.nc_control_flow.specs.declared.nest.Opened.{Opened}
 use Rattle.nc_control_flow.specs.declared.nest.Structure.{Structure}
@@ -87,5 +87,5 @@ pub step_taken : (blocks : List (ℕ × BlockView)) (block : ℕ × BlockView) (
 step_taken blocks block all new nest nests = fault_is blocks block all nest ∙ taken_by (nest_after all block.0 block.1.statement) all new nests
 
 pub pushed_view : (name : List ℕ) (line : ℕ) (blocks : List (ℕ × Block)) (block : ℕ × Block)
-    → ◌≡◌ {A = List ℕ × ProgramView} (name, record { line = line; blocks = map block_entry (blocks ++ block ∷ []) }) (name, record { line = line; blocks = map block_entry blocks ++ block_entry block ∷ [] })
-pushed_view name line blocks block = ap (λ all. (name, record { line = line; blocks = all })) (map-append block_entry blocks (block ∷ []))
+    → ◌≡◌ {A = List ℕ × ProgramView} (name, program_of line (map block_entry (blocks ++ block ∷ []))) (name, program_of line (map block_entry blocks ++ block_entry block ∷ []))
+pushed_view name line blocks block = ap (λ all. (name, program_of line all)) (map-append block_entry blocks (block ∷ []))

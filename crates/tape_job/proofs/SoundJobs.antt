@@ -15,7 +15,7 @@ use Rattle.nc_blocks.specs.Statement.{BlockView}
 use Rattle.fault_codes.specs.declared.Refusal.{Refusal}
 use Rattle.job_types.specs.declared.job.ChannelLine.{ChannelLine}
 use Rattle.job_types.specs.declared.job.Side.{Side}
-use Rattle.job_types.specs.Job.{JobView, ProgramView}
+use Rattle.job_types.specs.Job.{JobView, ProgramView, program_of}
 use Rattle.tape_job.specs.Lines.{Line, has_token, begins_with_percent, raw_lines}
 use Rattle.tape_job.specs.Reading.{ReadingView, Blank, First, DeclarationLine, Header, BlockLine, reading_of}
 use Rattle.tape_job.specs.Rules as rule
@@ -104,7 +104,7 @@ header_line_told : (facts_of : Told) (number : ℕ) (seen late : Bool) (options 
     → Sound (record { seen = seen; in_programs = late; options = options; job = with_line facts_of.job number (Ok (Header name)) })
 unfolding rule.header_rule with_line
 header_line_told facts_of number seen late options name sound none ended =
-    let program : List ℕ × ProgramView = (name, record { line = number; blocks = [] }) in
+    let program : List ℕ × ProgramView = (name, program_of number []) in
     let first = unbroken (rule.has_program facts_of.job.programs name) NameRepeated _ none in
     let second = unbroken (nat_le 256 (length facts_of.job.programs)) TooMany None first.1 in
     let below : length facts_of.job.programs < 256 = search (rules, second.0) in

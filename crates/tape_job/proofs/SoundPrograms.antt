@@ -9,7 +9,7 @@ use Rattle.std.proofs.lemmas.List.Elements.{All-nil, All-cons, All-push, All-wea
 use Rattle.nc_blocks.specs.Statement.{BlockView}
 use Rattle.nc_control_flow.specs.declared.nest.Opened.{Opened}
 use Rattle.nc_control_flow.specs.Nested.{nest_of, IsNested}
-use Rattle.job_types.specs.Job.{ProgramView}
+use Rattle.job_types.specs.Job.{ProgramView, program_of}
 use Rattle.tape_job.specs.Rules as rule
 use Rattle.tape_job.specs.Steps.{with_block}
 use Rattle.tape_job.proofs.SoundLists.{none_pass, found}
@@ -22,16 +22,16 @@ module _ (P : ℕ × BlockView → Type 0) where
   pub block_told : (programs : List (List ℕ × ProgramView)) (block : ℕ × BlockView) → InAll programs → P block → InAll (with_block programs block)
   block_told [] block all holds = All-nil (λ program. All P program.1.blocks)
   block_told (program ∷ []) block all holds =
-      All-cons (λ program. All P program.1.blocks) (program.0, record { line = program.1.line; blocks = program.1.blocks ++ block ∷ [] }) []
+      All-cons (λ program. All P program.1.blocks) (program.0, program_of program.1.line (program.1.blocks ++ block ∷ [])) []
       (All-push P program.1.blocks block (all 0 program (omega arith)) holds) (All-nil (λ program. All P program.1.blocks))
   block_told (program ∷ next ∷ programs) block all holds =
       All-cons (λ program. All P program.1.blocks) program (with_block (next ∷ programs) block)
       (all 0 program (omega arith)) (block_told (next ∷ programs) block (λ k d within. all (suc k) d (omega arith)) holds)
 
   pub header_told : (programs : List (List ℕ × ProgramView)) (number : ℕ) (name : List ℕ) → InAll programs
-      → InAll (programs ++ (name, record { line = number; blocks = [] }) ∷ [])
+      → InAll (programs ++ (name, program_of number []) ∷ [])
   header_told programs number name all =
-      All-push (λ program. All P program.1.blocks) programs (name, record { line = number; blocks = [] }) all (All-nil P)
+      All-push (λ program. All P program.1.blocks) programs (name, program_of number []) all (All-nil P)
 
 -- the names of the programs
 pub keys-with_block : (programs : List (List ℕ × ProgramView)) (block : ℕ × BlockView) → keys_of (with_block programs block) ≡ keys_of programs
@@ -94,7 +94,7 @@ nested_block (program ∷ next ∷ []) block all none = (all.0, nested_block (ne
 nested_block (program ∷ next ∷ third ∷ programs) block all none = (all.0, nested_block (next ∷ third ∷ programs) block all.1 none)
 
 pub nested_header : (programs : List (List ℕ × ProgramView)) (number : ℕ) (name : List ℕ) → NestedSoFar programs → rule.left_open programs ≡ None
-    → NestedSoFar (programs ++ (name, record { line = number; blocks = [] }) ∷ [])
+    → NestedSoFar (programs ++ (name, program_of number []) ∷ [])
 unfolding rule.left_open rule.open_line
 nested_header [] number name all none = ([], refl)
 nested_header (program ∷ []) number name all none = (nothing_open (nest_of program.1.blocks) all none, ([], refl))

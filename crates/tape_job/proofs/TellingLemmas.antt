@@ -15,7 +15,7 @@ use Rattle.job_lines.specs.Code.{refusal_code}
 use Rattle.job_lines.specs.declared.code.Code.TheVariants.{LineTooLong}
 use Rattle.tape_job.specs.declared.fault.JobFault.{JobFault}
 use Rattle.tape_job.specs.declared.fault.JobFault.TheVariants.{Refused, NoMemory}
-use Rattle.job_types.specs.Job.{JobView, ProgramView}
+use Rattle.job_types.specs.Job.{JobView, ProgramView, program_of}
 use Rattle.tape_job.specs.Lines.{Line, has_token, begins_with_percent, raw_lines, text_of, before_comment}
 use Rattle.tape_job.specs.Told.{Told, facts_of, reading_under, reading_after, accept_compensation, says_compensation, says_skip, any_after, last_of, option_in, job_line_in, entries, axes_in, job_line_from, channel_from, axis_from, geo_from, offset_from, zone_from, margin_from, depth_from, budget_from, block_from, name_from, until_header, blocks_in, with_program, programs_in}
 use Rattle.tape_job.specs.Read.{trial, first_trial, end_trial, answer, read_of, GivesRead}
@@ -172,7 +172,7 @@ blocks_push before [] line = one_block line.0 (reading_after before line.1) ∙ 
 blocks_push before (next ∷ lines) line =
     ap (until_header (name_from (reading_after before next.1)) (block_from next.0 (reading_after before next.1))) (blocks_push (before ++ next ∷ []) lines line)
     ∙ block_after (name_from (reading_after before next.1)) (block_from next.0 (reading_after before next.1))
-    (record { line = next.0; blocks = blocks_in (before ++ next ∷ []) lines }) (programs_in (before ++ next ∷ []) lines)
+    (program_of next.0 (blocks_in (before ++ next ∷ []) lines)) (programs_in (before ++ next ∷ []) lines)
     line.0 (reading_after ((before ++ next ∷ []) ++ lines) line.1) (blocks_in (before ++ next ∷ []) lines)
     ∙ ap (λ b. extended (programs_in before (next ∷ lines)) line.0 (reading_after b line.1) (blocks_in before (next ∷ lines))) (append_assoc before (next ∷ []) lines)
 
@@ -180,14 +180,14 @@ blocks_push before (next ∷ lines) line =
 abbrev grown : List (List ℕ × ProgramView) → ℕ → Result ReadingView ℕ → List (List ℕ × ProgramView)
 grown programs number reading = with_header (with_block_of programs (block_from number reading)) number (name_from reading)
 
-one_program : (number : ℕ) (reading : Result ReadingView ℕ) → with_program (name_from reading) (record { line = number; blocks = [] }) [] ≡ grown [] number reading
+one_program : (number : ℕ) (reading : Result ReadingView ℕ) → with_program (name_from reading) (program_of number []) [] ≡ grown [] number reading
 one_program number (Ok (Header name)) = refl
 one_program number (Ok (BlockLine block)) = refl
 one_program number reading = refl
 
 grown_after : (name : List ℕ) (header : ℕ) (blocks : List (ℕ × BlockView)) (programs : List (List ℕ × ProgramView)) (number : ℕ) (reading : Result ReadingView ℕ)
-    → (name, record { line = header; blocks = extended programs number reading blocks }) ∷ grown programs number reading
-    ≡ grown ((name, record { line = header; blocks = blocks }) ∷ programs) number reading
+    → (name, program_of header (extended programs number reading blocks)) ∷ grown programs number reading
+    ≡ grown ((name, program_of header blocks) ∷ programs) number reading
 grown_after name header blocks [] number (Ok (Header other)) = refl
 grown_after name header blocks [] number (Ok (BlockLine block)) = refl
 grown_after name header blocks [] number reading = refl
@@ -196,8 +196,8 @@ grown_after name header blocks (program ∷ programs) number (Ok (BlockLine bloc
 grown_after name header blocks (program ∷ programs) number reading = refl
 
 program_after : (name : Option (List ℕ)) (header : ℕ) (blocks : List (ℕ × BlockView)) (programs : List (List ℕ × ProgramView)) (number : ℕ) (reading : Result ReadingView ℕ)
-    → with_program name (record { line = header; blocks = extended programs number reading blocks }) (grown programs number reading)
-    ≡ grown (with_program name (record { line = header; blocks = blocks }) programs) number reading
+    → with_program name (program_of header (extended programs number reading blocks)) (grown programs number reading)
+    ≡ grown (with_program name (program_of header blocks) programs) number reading
 program_after None header blocks programs number reading = refl
 program_after (Some name) header blocks programs number reading = grown_after name header blocks programs number reading
 
@@ -205,9 +205,9 @@ programs_push : (before lines : List Line) (line : Line)
     → programs_in before (lines ++ line ∷ []) ≡ grown (programs_in before lines) line.0 (reading_after (before ++ lines) line.1)
 programs_push before [] line = one_program line.0 (reading_after before line.1) ∙ ap (λ b. grown [] line.0 (reading_after b line.1)) (sym (append-nil before))
 programs_push before (next ∷ lines) line =
-    ap (λ blocks. with_program (name_from (reading_after before next.1)) (record { line = next.0; blocks = blocks }) (programs_in (before ++ next ∷ []) (lines ++ line ∷ [])))
+    ap (λ blocks. with_program (name_from (reading_after before next.1)) (program_of next.0 blocks) (programs_in (before ++ next ∷ []) (lines ++ line ∷ [])))
     (blocks_push (before ++ next ∷ []) lines line)
-    ∙ ap (with_program (name_from (reading_after before next.1)) (record { line = next.0; blocks = extended (programs_in (before ++ next ∷ []) lines) line.0 (reading_after ((before ++ next ∷ []) ++ lines) line.1) (blocks_in (before ++ next ∷ []) lines) }))
+    ∙ ap (with_program (name_from (reading_after before next.1)) (program_of next.0 (extended (programs_in (before ++ next ∷ []) lines) line.0 (reading_after ((before ++ next ∷ []) ++ lines) line.1) (blocks_in (before ++ next ∷ []) lines))))
     (programs_push (before ++ next ∷ []) lines line)
     ∙ program_after (name_from (reading_after before next.1)) next.0 (blocks_in (before ++ next ∷ []) lines) (programs_in (before ++ next ∷ []) lines)
     line.0 (reading_after ((before ++ next ∷ []) ++ lines) line.1)

@@ -28,5 +28,9 @@ nothing_told = record {
   budget = 1000000;
   compensation = false;
   skip = false;
+  tools = [];
+  timeline = false;
+  feeds = [];
+  times = [];
   programs = [];
 }

@@ -10,7 +10,7 @@ use Rattle.tape_job.specs.declared.reading.LineFault.TheVariants as fault
 use Rattle.tape_job.specs.declared.reading.Reading.{Reading}
 use Rattle.tape_job.specs.Draft.{DraftView}
 use Rattle.tape_job.specs.declared.draft.GivenOptions.{GivenOptions}
-use Rattle.job_types.specs.Job.{JobView, ProgramView}
+use Rattle.job_types.specs.Job.{JobView, ProgramView, program_of}
 use Rattle.tape_job.specs.Lines.{Line, has_token, begins_with_percent}
 use Rattle.tape_job.specs.Reading.{ReadingView, reading_view, reading_of}
 use Rattle.tape_job.specs.Told.{Told, job_line_from, channel_from, axis_from, geo_from, offset_from, zone_from, margin_from, depth_from, budget_from, says_compensation, says_skip, block_from, name_from}
@@ -25,7 +25,7 @@ with_entry xs (Some x) = xs ++ x ∷ []
 -- the last program with one more block
 abbrev pub with_block : List (List ℕ × ProgramView) → ℕ × BlockView → List (List ℕ × ProgramView)
 with_block [] block = []
-with_block (program ∷ []) block = (program.0, record { line = program.1.line; blocks = program.1.blocks ++ block ∷ [] }) ∷ []
+with_block (program ∷ []) block = (program.0, program_of program.1.line (program.1.blocks ++ block ∷ [])) ∷ []
 with_block (program ∷ next ∷ programs) block = program ∷ with_block (next ∷ programs) block
 
 abbrev pub with_block_of : List (List ℕ × ProgramView) → Option (ℕ × BlockView) → List (List ℕ × ProgramView)
@@ -34,13 +34,11 @@ with_block_of programs (Some block) = with_block programs block
 
 abbrev pub with_header : List (List ℕ × ProgramView) → ℕ → Option (List ℕ) → List (List ℕ × ProgramView)
 with_header programs number None = programs
-with_header programs number (Some name) = programs ++ (name, record { line = number; blocks = [] }) ∷ []
+with_header programs number (Some name) = programs ++ (name, program_of number []) ∷ []
 
 -- the job with what one more line says
 unfoldable pub with_line : JobView → ℕ → Result ReadingView ℕ → JobView
-with_line job number reading = record {
-  version = job.version;
-  number = job.number;
+with_line job number reading = record job {
   line = unwrap_or (job_line_from number reading) job.line;
   channels = with_entry job.channels (channel_from number reading);
   axes = with_entry job.axes (axis_from number reading);
@@ -122,4 +120,4 @@ last_fault (Some last) block = structure_fault last.1.blocks block
 
 abbrev pub last_with : Option (List ℕ × ProgramView) → ℕ × BlockView → Option (List ℕ × ProgramView)
 last_with None block = None
-last_with (Some last) block = Some (last.0, record { line = last.1.line; blocks = last.1.blocks ++ block ∷ [] })
+last_with (Some last) block = Some (last.0, program_of last.1.line (last.1.blocks ++ block ∷ []))

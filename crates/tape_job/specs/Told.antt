@@ -13,7 +13,7 @@ use Rattle.job_types.specs.declared.job.ZoneLine.{ZoneLine}
 use Rattle.job_types.specs.declared.job.Side.{Side}
 use Rattle.tape_job.specs.Draft.{nothing_told}
 use Rattle.tape_job.specs.declared.draft.GivenOptions.{GivenOptions}
-use Rattle.job_types.specs.Job.{JobView, ProgramView}
+use Rattle.job_types.specs.Job.{JobView, ProgramView, program_of}
 use Rattle.tape_job.specs.Lines.{Line, has_token, begins_with_percent}
 use Rattle.tape_job.specs.Reading.{ReadingView, First, DeclarationLine, Header, BlockLine, reading_of}
 use Rattle.tape_job.specs.Rules.{axis_of, side_of}
@@ -133,7 +133,7 @@ with_program (Some name) program more = (name, program) ∷ more
 abbrev pub programs_in : List Line → List Line → List (List ℕ × ProgramView)
 programs_in before [] = []
 programs_in before (line ∷ lines) =
-    with_program (name_from (reading_after before line.1)) (record { line = line.0; blocks = blocks_in (before ++ line ∷ []) lines })
+    with_program (name_from (reading_after before line.1)) (program_of line.0 (blocks_in (before ++ line ∷ []) lines))
     (programs_in (before ++ line ∷ []) lines)
 
 abbrev pub axes_in : List Line → List AxisLine
@@ -147,6 +147,7 @@ option_in give lines = last_of (entries (λ before line. give (reading_after bef
 abbrev pub job_line_in : List Line → Option ℕ
 job_line_in lines = last_of (entries (λ before line. job_line_from line.0 (reading_after before line.1)) [] lines)
 
+-- what the lines tell together; the job keeps what no line tells as it is at the start
 unfoldable pub facts_of : List Line → Told
 facts_of lines = record {
   seen = list_any (λ line. has_token line.1) lines;
@@ -156,9 +157,7 @@ facts_of lines = record {
     depth = is_some (option_in depth_from lines);
     budget = is_some (option_in budget_from lines);
   };
-  job = record {
-    version = nothing_told.version;
-    number = nothing_told.number;
+  job = record nothing_told {
     line = unwrap_or (job_line_in lines) nothing_told.line;
     channels = entries (λ before line. channel_from line.0 (reading_after before line.1)) [] lines;
     axes = axes_in lines;

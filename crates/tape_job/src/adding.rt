@@ -92,28 +92,12 @@ impl Draft {
     }
 
     /// Adds an offset.
-    fn add_offset(
-        &mut self,
-        line: u32,
-        channel: ChannelId,
-        g: u16,
-        slot: u8,
-        by: Um,
-    ) -> Result<(), AllocError>
+    fn add_offset(&mut self, offset: OffsetLine) -> Result<(), AllocError>
         ensures { OnOk result (self.new ≡ record self.old {
-          job = record self.old.job {
-            offsets = self.old.job.offsets
-                ++ record { line = line; channel = channel; g = g; slot = slot; by = by } ∷ [];
-          };
+          job = record self.old.job { offsets = self.old.job.offsets ++ offset ∷ [] };
         }) }
     {
-        self.job.offsets.push(OffsetLine {
-            line,
-            channel,
-            g,
-            slot,
-            by,
-        })?;
+        self.job.offsets.push(offset)?;
         Ok(())
     }
 
@@ -166,7 +150,13 @@ impl Draft {
                 g,
                 slot,
                 by,
-            } => self.add_offset(line, channel, g, slot, by)?,
+            } => self.add_offset(OffsetLine {
+                line,
+                channel,
+                g,
+                slot,
+                by,
+            })?,
             Declaration::Zone(zone) => self.add_zone(line, zone)?,
             Declaration::Margin(margin) => {
                 self.options.margin = true;

@@ -13,6 +13,7 @@ use job_lines::PROGRAM_LIMIT;
 use job_types::Program;
 use nc_blocks::{Block, NameText};
 use nc_control_flow::{Nest, resolve};
+use nc_variables::VarTable;
 use out_of_memory::NoMemory;
 use std::alloc::{AllocError, Global};
 use std::marker::Model;
@@ -38,19 +39,20 @@ impl Model for Unresolved {
     ghost use Rattle.std.specs.Coded.{codes};
     ghost use Rattle.nc_control_flow.specs.Nested.{nest_of};
     ghost use Rattle.job_types.specs.TreeCode.{tree_code};
-    ghost use Rattle.job_types.specs.Job.{ProgramView, block_entry};
+    ghost use Rattle.job_types.specs.Job.{ProgramView, block_entry, program_of};
 
     ghost Value = { List ℕ × ProgramView };
 
     ghost coded = { Prim.hlevel (codes, tree_code) };
 
-    ghost view = { λ p. (p.name, record { line = p.line; blocks = map block_entry p.blocks.items }) };
+    ghost view = { λ p. (p.name, program_of p.line (map block_entry p.blocks.items)) };
 
     ghost invariant = { λ p. nest_of (map block_entry p.blocks.items) ≡ Ok p.nest };
 }
 
 impl Unresolved {
     ghost use Rattle.std.specs.Prelude.{◌≡◌, ◌<◌, ◌^◌, length, [], ◌∷◌, ◌++◌, IfOk, IfErr};
+    ghost use Rattle.job_types.specs.Job.{program_of};
     ghost use Rattle.nc_blocks.specs.Statement.{view_of};
     ghost use Rattle.tape_job.specs.Reading.{FaultIsListed};
     ghost use Rattle.tape_job.specs.Rules.{open_line, structure_fault};
@@ -58,7 +60,7 @@ impl Unresolved {
 
     /// A program without blocks.
     fn new(alloc: Global, line: u32, name: NameText) -> Unresolved
-        ensures { result ≡ (name, record { line = line; blocks = [] }) }
+        ensures { result ≡ (name, program_of line []) }
     {
         Unresolved {
             name,
@@ -87,7 +89,7 @@ impl Unresolved {
     #[tactic(auto, using(crate::proofs::NestLemmas::nest_goes_on, crate::proofs::NestLemmas::fault_is, crate::proofs::NestLemmas::nested_code))]
     fn push(&mut self, line: u32, block: Block) -> Result<(), LineFault>
         ensures exact { Adds (structure_fault self.old.1.blocks (line, view_of block))
-            (self.old.0, record self.old.1 { blocks = self.old.1.blocks ++ (line, view_of block) ∷ [] }) result
+            (self.old.0, program_of self.old.1.line (self.old.1.blocks ++ (line, view_of block) ∷ [])) result
             self.new }
         ensures listed { IfErr result FaultIsListed }
         ensures named { self.new.0 ≡ self.old.0 }
@@ -114,7 +116,10 @@ impl Unresolved {
             nest: _,
         } = self;
         match resolve(alloc, blocks) {
-            Ok(flow) => Ok((name, Program { line, flow })),
+            Ok(flow) => {
+                let table = VarTable::new();
+                Ok((name, Program { line, flow, table }))
+            }
             Err(NoMemory) => Err(AllocError),
         }
     }
@@ -190,6 +195,7 @@ impl Model for Library {
 
 impl Library {
     ghost use Rattle.std.specs.Prelude.{◌≡◌, ◌<◌, ◌^◌, nat_le, length, [], ◌∷◌, ◌++◌, false, IfOk, IfErr, OnOk};
+    ghost use Rattle.job_types.specs.Job.{program_of};
     ghost use Rattle.nc_blocks.specs.Statement.{view_of};
     ghost use Rattle.tape_job.specs.Reading.{FaultIsListed};
     ghost use Rattle.tape_job.specs.Rules.{has_program, last_count, left_open, structure_rule};
@@ -243,7 +249,7 @@ impl Library {
     ) -> Result<(), AllocError>
         requires named { has_program self.old name ≡ false }
         requires short { last_count self.old < 2 ^ 32 }
-        ensures { OnOk result (self.new ≡ self.old ++ (name, record { line = line; blocks = [] }) ∷ []) }
+        ensures { OnOk result (self.new ≡ self.old ++ (name, program_of line []) ∷ []) }
     {
         match self.last.replace(Unresolved::new(alloc, line, name)) {
             Some(last) => {

@@ -1,0 +1,11 @@
+//! The types whose values may go to another thread, and that threads may share.
+
+use crate::VarTable;
+
+/// Asks this of a type, and does nothing: each call is proved.
+fn crosses_threads<T: Send + Sync>() {}
+
+/// Asks it of each of them.
+fn types_cross_threads() {
+    crosses_threads::<VarTable>();
+}
