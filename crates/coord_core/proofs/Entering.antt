@@ -3,7 +3,7 @@ use Rattle.axis_sets.specs.declared.limits.TheConstants.{CHANNEL_LIMIT}
 use Rattle.std.proofs.Common.{◌≡◌, ℕ, zero, suc, Option, Some, None, ◌+◌, ◌≤◌, true, List, [], ◌∷◌, ◌++◌, map, length, length-append, append_assoc, subst, refl, sym, ap, ap₂, ◌∙◌, arith}
 use Rattle.std.proofs.lemmas.List.{length-map}
 use Rattle.sync_types.proofs.EntryLaws.{after_one_more, lawful_with_one_more}
-use Rattle.sync_types.proofs.GoingCounts.{at_most_eight_go}
+use Rattle.sync_types.proofs.GoingCounts.{few_go}
 use Rattle.sync_types.specs.BoardActions.{after_own_part, after_part, channels_started}
 use Rattle.sync_types.specs.BoardAlarms.{alarm_of}
 use Rattle.sync_types.specs.Boards.{Board, first_board, is_running}
@@ -18,7 +18,7 @@ all_within : (b own : Board) (c : ℕ) (step : Step) → StartsChannels step.act
     → length (goings_on own (channels_started (alarm_of b c step.action) step.action)) ≤ CHANNEL_LIMIT
 all_within b own c step named is =
     let P : Board → Type 0 = λ a. length (goings_on a (channels_started (alarm_of b c step.action) step.action)) ≤ CHANNEL_LIMIT in
-    subst P (sym is) (at_most_eight_go b c step named)
+    subst P (sym is) (few_go b c step named)
 
 -- there is room for all that go on
 pub room_at_once : (b own : Board) (c : ℕ) (step : Step) (goes : List Go) → StartsChannels step.action → own ≡ after_own_part b c step

@@ -1,4 +1,4 @@
--- At most eight channels go on in a step.
+-- No more channels go on in a step than there can be.
 use Rattle.axis_sets.specs.declared.limits.TheConstants.{CHANNEL_LIMIT, CHANNEL_PLACES}
 use Rattle.std.proofs.Common.{arith, inl, inr, ◌≡◌, ℕ, ◌+◌, ◌≤◌, zero, suc, ◌==◌, Bool, true, false, cond, List, [], ◌∷◌, ◌++◌, length, length-append, map, Option, Some, None, filter, refl, ap, ◌∙◌}
 use Rattle.std.proofs.lemmas.Bool.{cases_Bool}
@@ -12,7 +12,7 @@ use Rattle.sync_types.specs.BoardActions.{after_part, after_action, after_effect
 use Rattle.sync_types.specs.BoardAlarms.{alarm_of}
 use Rattle.sync_types.specs.Boards.{AtAxes, State, IsRunning, IsHolding, Board, among, channel_numbers, is_running}
 use Rattle.sync_types.specs.GoingOn.{Going, goes_at_once, goers_at_once, state_after_goes, after_goes, waits_for_axes, next_taker, after_taking, takings, takings_from, all_takings, going_of_start, going_at_once, goings_on}
-use Rattle.sync_types.specs.RunLaws.{AtMostEightGo, StartsChannels}
+use Rattle.sync_types.specs.RunLaws.{FewGoOn, StartsChannels}
 use Rattle.sync_types.specs.declared.Action.{Action}
 use Rattle.sync_types.specs.declared.Action.TheVariants.{Start}
 use Rattle.sync_types.specs.declared.Step.{Step}
@@ -106,5 +106,5 @@ goings_of_part b c step (Some code) sized = goings_within (after_part b c step (
 goings_of_part b c step None sized =
     goings_within (after_action b c step) (channels_to_start step.action) (among (channels_to_start step.action)) (starts_within step.action sized) (started_run b c step)
 
-pub at_most_eight_go : (b : Board) (c : ℕ) (step : Step) → AtMostEightGo b c step
-at_most_eight_go b c step sized = goings_of_part b c step (alarm_of b c step.action) sized
+pub few_go : (b : Board) (c : ℕ) (step : Step) → FewGoOn b c step
+few_go b c step sized = goings_of_part b c step (alarm_of b c step.action) sized

@@ -5,4 +5,5 @@ pub mod GoingCounts
 pub mod Links
 pub mod Replays
 pub mod Settling
+pub mod TakenAxes
 pub mod Together

@@ -1,12 +1,13 @@
 -- Axes and zones stay together.
 use Rattle.axis_sets.specs.declared.limits.TheConstants.{CHANNEL_LIMIT}
-use Rattle.std.proofs.Common.{eqb-true, ap₂, inl, inr, ◌≡◌, ℕ, ℤ, zero, suc, ◌==◌, ◌&&◌, Bool, true, false, cond, List, [], ◌∷◌, Option, Some, None, if◌then◌else◌, refl, sym, ap, ◌∙◌}
+use Rattle.std.proofs.Common.{eqb-true, inl, inr, ◌≡◌, ℕ, ℤ, zero, suc, ◌==◌, Bool, true, false, cond, List, [], ◌∷◌, Option, Some, None, if◌then◌else◌, refl, sym, ap, ◌∙◌}
 use Rattle.std.proofs.lemmas.Bool.{cases_Bool, and_parts}
 use Rattle.std.proofs.lemmas.List.Elements.{All-head, All-tail}
 use Rattle.axis_sets.specs.Sets.{has, members_of}
 use Rattle.axis_sets.proofs.SetLaws.{list_any-members_of}
 use Rattle.sync_types.proofs.BoardTests.{no_truth, passes, among_kept, some_alike, whole_alike, whole_found, not_so, by_test, not_not, first_passes, not_found}
-use Rattle.sync_types.specs.Boards.{State, IsIdle, Ownership, OwnedBy, FreeAt, Board, among, channel_numbers, owner_of, is_free, ownership_of, first_board, first_state}
+use Rattle.sync_types.proofs.TakenAxes.{taken_alike}
+use Rattle.sync_types.specs.Boards.{State, IsIdle, Ownership, OwnedBy, FreeAt, Board, among, channel_numbers, owner_of, ownership_of, first_board, first_state}
 use Rattle.sync_types.specs.BoardAlarms.{alarm_of, named_axes, names_no_mark, names_no_channel, names_no_axis, lets_go_of_others, splits_a_zone, finds_own_mark, finds_one_awake, starts_without_program, own_alarm}
 use Rattle.sync_types.specs.BoardActions.{carries, channels_to_start, axes_to_free, ownership_after, holder_after, state_after_alarm, state_after_action, state_of_actor, after_alarm, after_effects, after_action, after_part, after_own_part}
 use Rattle.sync_types.specs.GoingOn.{axes_asked, waits_for_axes, goes_at_once, goers_at_once, state_after_goes, after_goes, can_take, next_taker, axes_to_take, ownership_after_taking, holder_after_taking, state_after_taking, after_taking, takings, takings_from}
@@ -25,10 +26,6 @@ pub record Keeps (b : Board) : Type 0 where
   pub asleep : (c : ℕ) → has_channel b.start c ≡ false → b.state c ≡ IsIdle
   pub asks : (c z x y : ℕ) → has (axes_of_zone b.start z) x ≡ true → has (axes_of_zone b.start z) y ≡ true
       → among (axes_asked (b.state c)) x ≡ among (axes_asked (b.state c)) y
-
-abbrev is_no_one : Option ℕ → Bool
-is_no_one (Some c) = false
-is_no_one None = true
 
 -- it asks for both axes or for neither
 abbrev AsksAlike : ℕ → ℕ → State → Type 0
@@ -144,18 +141,6 @@ taker_known b c k takes = elim (cases_Bool (has_channel b.start c)) [
   | inr off ↦ no_truth (waits_for_axes (b.state c)) (and_parts _ _ takes).0 (ap waits_for_axes (k.asleep c off))
 ]
 
-free_of : (a : Ownership) → is_free a ≡ is_no_one (owner_of a)
-free_of (OwnedBy c) = refl
-free_of (FreeAt p) = refl
-
--- of the axes of a zone a taker takes all or none
-taken_alike : (b : Board) (c z x y : ℕ) → Keeps b → has (axes_of_zone b.start z) x ≡ true → has (axes_of_zone b.start z) y ≡ true → among (axes_to_take b c) x ≡ among (axes_to_take b c) y
-taken_alike b c z x y k on_x on_y =
-    among_kept (λ a. is_free (b.axis a)) (axes_asked (b.state c)) x
-    ∙ ap₂ (λ p q. p && q) (k.asks c z x y on_x on_y)
-    (free_of (b.axis x) ∙ ap is_no_one (k.together.zones z x on_x ∙ sym (k.together.zones z y on_y)) ∙ sym (free_of (b.axis y)))
-    ∙ sym (among_kept (λ a. is_free (b.axis a)) (axes_asked (b.state c)) y)
-
 keeps_taking : (b : Board) (c : ℕ) → can_take b c ≡ true → Keeps b → Keeps (after_taking b c)
 unfolding ownership_after_taking holder_after_taking state_after_taking
 keeps_taking b c takes k = record {
@@ -164,7 +149,7 @@ keeps_taking b c takes k = record {
         (λ taken owned. ap (has_channel b.start) (sym (same_owner c d owned)) ∙ taker_known b c k takes)
         (λ stays owned. k.together.owners x d owned);
     zones = λ z x on_x. goes_to (among (axes_to_take b c) x) (carries b (axes_to_take b c) z) (b.axis x) (b.holder z) c
-        (some_alike (has (axes_of_zone b.start z)) (axes_to_take b c) x on_x (λ y on_y. taken_alike b c z y x k on_y on_x))
+        (some_alike (has (axes_of_zone b.start z)) (axes_to_take b c) x on_x (λ y on_y. taken_alike b c y x (k.asks c z y x on_y on_x) (k.together.zones z y on_y ∙ sym (k.together.zones z x on_x))))
         (k.together.zones z x on_x);
   };
   asleep = λ d none. by_test (λ s. s ≡ IsIdle) (d == c) _ _

@@ -59,9 +59,9 @@ first_of (c ∷ cs) = Some c
 abbrev pub next_taker : Board → Option ℕ
 next_taker b = first_of (filter (can_take b) channel_numbers)
 
--- the free ones of the axes that it asks for
+-- those of the axes that it asks for which are not its own; where it can take them, each of these is free
 abbrev pub axes_to_take : Board → ℕ → List ℕ
-axes_to_take b c = filter (λ x. is_free (b.axis x)) (axes_asked (b.state c))
+axes_to_take b c = filter (λ x. not (owns b c x)) (axes_asked (b.state c))
 
 abbrev pub free_position : Ownership → ℤ
 free_position (OwnedBy c) = pos 0
@@ -102,7 +102,7 @@ takings (suc n) b = elim (next_taker b) [
   | Some c ↦ let rest = takings n (after_taking b c) in record { goings = going_of_taker b c ∷ rest.goings; board = rest.board }
 ]
 
--- Each taking ends a wait of a channel, so eight are enough: the law after_a_step_nobody_can_go shows that none can after them.
+-- Each taking ends a wait of a channel, so as many are enough as there can be channels: the law after_a_step_nobody_can_go shows that none can after them.
 abbrev pub all_takings : Board → Takings
 all_takings b = takings CHANNEL_LIMIT b
 

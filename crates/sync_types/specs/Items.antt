@@ -1,10 +1,11 @@
 -- Meaning. What items do, and where they leave axes.
-use Rattle.std.specs.Prelude.{◌≡◌, ℕ, ℤ, List, [], filter_map, Option, None, Some, option_and_then, unwrap_or}
+use Rattle.std.specs.Prelude.{◌≡◌, ℕ, ℤ, ◌-◌, Bool, List, [], filter_map, Option, None, Some, is_some, option_and_then, slice_get, slice_index_or, unwrap_or}
 use Rattle.std.specs.List.{last_or}
 use Rattle.axis_sets.specs.Positions.{stands}
 use Rattle.path_geometry.specs.Motions.{axis_end}
 use Rattle.path_geometry.specs.declared.motion.Motion.{Motion}
 use Rattle.path_geometry.specs.declared.motion.Motion.TheVariants.{Line}
+use Rattle.sync_types.specs.Views.{RunView}
 use Rattle.sync_types.specs.declared.Item.{Item}
 use Rattle.sync_types.specs.declared.Part.{Part}
 use Rattle.sync_types.specs.declared.Part.TheVariants.{Move, Switch}
@@ -16,6 +17,14 @@ motion_in (Switch zone on) = None
 -- the motion of an item; none where it switches a zone
 abbrev pub motion_of : Item → Option Motion
 motion_of item = motion_in item.part
+
+-- an item moves axes
+abbrev pub is_motion : Item → Bool
+is_motion item = is_some (motion_of item)
+
+-- the motion of a place, counted from 1, among what the channel of an entry did before its step; none where no motion is there
+abbrev pub motion_at : RunView → ℕ → ℕ → Option Motion
+motion_at run entry place = option_and_then motion_of (slice_get (slice_index_or run.items entry []) (place - 1))
 
 abbrev pub movement_in : Part → Motion
 movement_in (Move motion) = motion

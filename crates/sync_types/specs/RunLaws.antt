@@ -26,14 +26,14 @@ pub record NobodyCanGo (b : Board) : Type 0 where
 abbrev pub AlarmLetsNobodyGo : Board → ℕ → Step → Type 0
 AlarmLetsNobodyGo b c step = NobodyCanGo b → is_some (alarm_of b c step.action) ≡ true → goings_in_step b c step ≡ []
 
--- START names channels, by their numbers 1 to 8
+-- START names channels, by their numbers, of which 0 is none
 abbrev pub StartsChannels : Action → Type 0
 StartsChannels (Start named) = (length named ≡ CHANNEL_PLACES) × (has named 0 ≡ false)
 StartsChannels other = Unit {0}
 
--- at most eight channels go on in a step
-abbrev pub AtMostEightGo : Board → ℕ → Step → Type 0
-AtMostEightGo b c step = StartsChannels step.action → length (goings_in_step b c step) ≤ CHANNEL_LIMIT
+-- no more channels go on in a step than there can be
+abbrev pub FewGoOn : Board → ℕ → Step → Type 0
+FewGoOn b c step = StartsChannels step.action → length (goings_in_step b c step) ≤ CHANNEL_LIMIT
 
 -- the steps of a run are of running channels, and leave the run's board
 pub record RunIsReplay (script : Script) (stage : Stage) (cs : List ℕ) : Type 0 where

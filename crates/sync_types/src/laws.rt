@@ -1,7 +1,7 @@
 //! What is true of every board.
 ghost use Rattle.std.specs.Prelude.{ℕ, List};
 ghost use Rattle.sync_types.specs.Boards.{Board};
-ghost use Rattle.sync_types.specs.RunLaws.{NobodyCanGo, AlarmLetsNobodyGo, AtMostEightGo, RunIsReplay, EntriesAreReplay, SequentialIsOne, AllHaveEnds, MaximalRunsComeFrom, AreOneAlike, HasOneLowestName};
+ghost use Rattle.sync_types.specs.RunLaws.{NobodyCanGo, AlarmLetsNobodyGo, FewGoOn, RunIsReplay, EntriesAreReplay, SequentialIsOne, AllHaveEnds, MaximalRunsComeFrom, AreOneAlike, HasOneLowestName};
 ghost use Rattle.sync_types.specs.Runs.{Script, Stage, IsRun, IsSequential};
 ghost use Rattle.sync_types.specs.Togetherness.{StaysTogether};
 ghost use Rattle.sync_types.specs.Turns.{Move, AreOfRunning, after_step};
@@ -49,7 +49,7 @@ pub fn after_a_step_nobody_can_go()
     ensures alarms { (b : Board) (c : ℕ) (step : Step) → AlarmLetsNobodyGo b c step }
 {}
 
-/// A law: at most eight channels go on in a step.
-pub fn at_most_eight_go_on()
-    ensures { (b : Board) (c : ℕ) (step : Step) → AtMostEightGo b c step }
+/// A law: no more channels go on in a step than there can be.
+pub fn few_go_on()
+    ensures { (b : Board) (c : ℕ) (step : Step) → FewGoOn b c step }
 {}

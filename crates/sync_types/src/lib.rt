@@ -10,8 +10,8 @@ mod verdicts;
 use axis_sets::{AxisSet, ChannelId, ChannelSet, MarkSet, Positions, ZoneId, ZoneSet};
 use fault_codes::Alarm;
 pub use laws::{
-    a_run_that_is_over_has_all_ends, after_a_step_nobody_can_go, at_most_eight_go_on,
-    axes_stay_together, events_are_one_alike, runs_are_replays, the_sequential_run_is_one,
+    a_run_that_is_over_has_all_ends, after_a_step_nobody_can_go, axes_stay_together,
+    events_are_one_alike, few_go_on, runs_are_replays, the_sequential_run_is_one,
 };
 use path_geometry::Motion;
 pub use runs::{Entry, EventId, Go, Race, Run};
@@ -38,7 +38,7 @@ pub struct Item {
 
 impl Item {
     ghost use Rattle.std.specs.Prelude.{◌≡◌, option_copied};
-    ghost use Rattle.sync_types.specs.Items.{motion_of};
+    ghost use Rattle.sync_types.specs.Items.{is_motion, motion_of};
 
     /// The motion, where the block moves axes.
     pub fn motion(&self) -> Option<&Motion>
@@ -47,6 +47,16 @@ impl Item {
         match &self.part {
             Part::Move(motion) => Some(motion),
             Part::Switch(_, _) => None,
+        }
+    }
+
+    /// Whether the block moves axes.
+    pub fn is_motion(&self) -> bool
+        ensures { result ≡ is_motion self.now }
+    {
+        match &self.part {
+            Part::Move(_) => true,
+            Part::Switch(_, _) => false,
         }
     }
 }

@@ -1,7 +1,10 @@
 //! What a run has: an entry for each step, and what each channel did and how it stopped.
+ghost use Rattle.std.specs.Prelude.{◌≡◌, option_copied, slice_get};
+
 use crate::{ChannelEnd, Grant, Item, Step};
 use arrayvec::ArrayVec;
 use axis_sets::{CHANNEL_LIMIT, ChannelId};
+use path_geometry::Motion;
 use std::marker::Model;
 
 /// A channel goes on, with this grant.
@@ -34,6 +37,40 @@ impl Model for Entry {
     ghost inverse = { λ e. record { channel = e.channel; step = e.step; goes = record { items = e.goes } } };
 }
 
+impl Entry {
+    ghost use Rattle.axis_sets.specs.declared.limits.TheConstants.{CHANNEL_LIMIT};
+    ghost use Rattle.std.specs.Prelude.{◌≡◌, ◌==◌, ◌≤◌, length};
+
+    /// The channel that acted.
+    pub fn channel(&self) -> ChannelId
+        ensures { result ≡ self.now.channel }
+    {
+        self.channel
+    }
+
+    /// Whether the step is of `channel`.
+    pub fn is_of(&self, channel: ChannelId) -> bool
+        ensures { result ≡ (self.now.channel == channel) }
+    {
+        self.channel == channel
+    }
+
+    /// What the channel did.
+    pub fn step(&self) -> &Step
+        ensures { result.now ≡ self.now.step }
+    {
+        &self.step
+    }
+
+    /// Who goes on in the step, in order: no more channels than there can be.
+    pub fn goes(&self) -> &[Go]
+        ensures goes { result.now ≡ self.now.goes }
+        ensures few { length result.now ≤ CHANNEL_LIMIT }
+    {
+        self.goes.as_slice()
+    }
+}
+
 /// A whole run of a job.
 #[derive(Drop)]
 pub struct Run {
@@ -58,8 +95,17 @@ impl Model for Run {
     } };
 }
 
+/// The item of this place, counted from 0, if there is one.
+fn item_at(items: &[Item], place: usize) -> Option<&Item>
+    ensures { option_copied result ≡ slice_get items.now place }
+{
+    items.get(place)
+}
+
 impl Run {
-    ghost use Rattle.std.specs.Prelude.{◌≡◌, [], map, slice_index_or};
+    ghost use Rattle.axis_sets.specs.declared.limits.TheConstants.{CHANNEL_LIMIT};
+    ghost use Rattle.std.specs.Prelude.{◌≡◌, ◌≤◌, [], All, length, map, option_copied, slice_get, slice_index_or};
+    ghost use Rattle.sync_types.specs.Items.{motion_at};
 
     /// The steps of the run, in order.
     pub fn entries(&self) -> &[Entry]
@@ -82,6 +128,29 @@ impl Run {
         match self.items.get(place) {
             None => &[],
             Some(items) => items.as_slice(),
+        }
+    }
+
+    /// The motion at `place`, counted from 1, among what the channel of the entry at `entry`, counted from 0, did
+    /// before its step; nothing where no motion is there.
+    pub fn motion_at(&self, entry: u32, place: u32) -> Option<&Motion>
+        ensures { option_copied result ≡ motion_at self.now entry place }
+    {
+        match item_at(
+            self.items_at(entry as usize),
+            (place as usize).saturating_sub(1),
+        ) {
+            None => None,
+            Some(item) => item.motion(),
+        }
+    }
+
+    /// Sees that in no step of the run more channels go on than there can be.
+    pub fn see_goes(&self)
+        ensures { All (λ e. length e.goes ≤ CHANNEL_LIMIT) self.now.entries }
+    {
+        for entry in self.entries() {
+            let _goes = entry.goes();
         }
     }
 
