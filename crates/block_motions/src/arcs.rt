@@ -310,7 +310,8 @@ impl<'a> ArcBlock<'a> {
         at: &mut Positions,
     ) -> Result<Option<Motion>, u16>
         ensures made { (h : ConditionsView) → AreInForce h self.now.conditions.now
-            → result ≡ model.arc_to self.now.axes.now.owned h (stands_at at.old) self.now.words.now sides.now goals.now }
+            → result ≡ model.arc_to self.now.axes.now.owned h (stands_at at.old) self.now.words.now sides.now
+            goals.now }
         ensures stand { IfOk result (λ motion. StandsAtEndOf motion at.old at.new) }
         ensures unmoved { OnErr result (at.new ≡ at.old) }
     {

@@ -1,6 +1,7 @@
 -- Stretches of a zone that ascend: those that may overlap a stretch of another zone stand side by side.
 use Rattle.std.proofs.Common.{◌≡◌, ◌∙◌, ℕ, zero, suc, ◌+◌, ◌<◌, ◌≤◌, ◌||◌, not, nat_le, Bool, true, false, cond, List, [], ◌∷◌, ◌++◌, drop, take, length, get_or, Option, None, Some, All, refl, sym, ap, subst, arith}
 use Rattle.std.specs.Prelude.{IfSome, ◌==◌, if◌then◌else◌}
+use Rattle.std.specs.List.Sorted.{IsPartitionPoint, IsPartitionedBy}
 use Rattle.std.proofs.lemmas.Bool.{and_parts, eqb-true, le-leb, lt-leb}
 use Rattle.std.proofs.lemmas.List.Elements.{All-nil, All-cons, All-head, All-tail, All-weaker, All-get_or}
 use Rattle.order_clocks.specs.Before.{Follows}
@@ -69,6 +70,28 @@ leading_by test (x ∷ xs) (suc k) d within off = by_test (test x) (leading_by t
     by_test : (b : Bool) → leading test xs ≤ k → cond b (suc (leading test xs)) 0 ≤ suc k
     by_test true rest = omega (arith, rest)
     by_test false rest = omega arith
+
+-- one that passes comes after none that does not
+pub are_parted : {X : Type 0} (test : X → Bool) (xs : List X) → PassFirst test xs → IsPartitionedBy test xs
+are_parted test [] first i j d low high on = absurd (omega (arith, high))
+are_parted test (x ∷ xs) first zero zero d low high on = on
+are_parted test (x ∷ xs) first (suc i) zero d low high on = absurd (omega (arith, low))
+are_parted test (x ∷ xs) first (suc i) (suc j) d low high on = are_parted test xs first.1 i j d (omega (arith, low)) (omega (arith, high)) on
+are_parted test (x ∷ xs) first zero (suc j) d low high on = by_test (test x) refl
+  where
+    by_test : (b : Bool) → test x ≡ b → test x ≡ true
+    by_test true is = is
+    by_test false is =
+        let none : test (get_or xs j d) ≡ false = All-get_or (λ y. test y ≡ false) xs j d (omega (arith, high)) (first.0 is) in
+        absurd (let both : true ≡ false = sym on ∙ none in cc)
+
+-- where all before a place pass and none from it on, so many pass before the first that does not
+pub leading_is : {X : Type 0} (test : X → Bool) (xs : List X) (k : ℕ) → k ≤ length xs → IsPartitionPoint (λ y. test y ≡ true) (λ y. test y ≡ false) xs k → k ≡ leading test xs
+leading_is test [] k within point = omega (arith, within)
+leading_is test (x ∷ xs) zero within point = rw (point.1 0 x (omega arith) (omega arith)) refl
+leading_is test (x ∷ xs) (suc k) within point =
+    let rest = leading_is test xs k (omega (arith, within)) ((λ i d low high. point.0 (suc i) d (omega arith) (omega (arith, high))), (λ i d low high. point.1 (suc i) d (omega (arith, low)) (omega (arith, high)))) in
+    rw (point.0 0 x (omega arith) (omega arith)) (ap suc rest)
 
 -- so many pass where the last of them does, and no more than there are
 pub leading_at : {X : Type 0} (test : X → Bool) (xs : List X) (k count : ℕ) (d : X) → PassFirst test xs → k < length xs → count ≡ suc k → test (get_or xs k d) ≡ nat_le count (leading test xs)

@@ -103,6 +103,15 @@ pub fn ascends_at(ascents: &[bool; ZONE_LIMIT], place: usize) -> bool
     place < ZONE_LIMIT && ascents[place]
 }
 
+/// What stretches of another zone are asked beside a stretch: whether each is over as this one begins; or where that is asked,
+/// whether it begins before this one is over. Those that are or do pass.
+#[derive(Clone, Copy)]
+struct Passing<'a> {
+    clocks: &'a Clocks,
+    ended: bool,
+    own: &'a Stretch,
+}
+
 /// Whether a stretch of another zone is over as this one begins; or where that is asked, whether it begins before this one is
 /// over.
 fn passes(clocks: &Clocks, ended: bool, own: &Stretch, other: &Stretch) -> bool
@@ -115,26 +124,24 @@ fn passes(clocks: &Clocks, ended: bool, own: &Stretch, other: &Stretch) -> bool
     }
 }
 
-/// How many stretches pass before the first that does not: no fewer than the one number and no more than the other.
-fn count_passing(
-    clocks: &Clocks,
-    ended: bool,
-    own: &Stretch,
-    others: &[Stretch],
-    low: usize,
-    high: usize,
-) -> usize
-    requires low { low ≤ model.leading (model.passes (is_before_in clocks.now.rows) ended own.now) others.now }
-    requires high { model.leading (model.passes (is_before_in clocks.now.rows) ended own.now) others.now ≤ high }
-    requires within { high ≤ length others.now }
-    ensures { result ≡ model.leading (model.passes (is_before_in clocks.now.rows) ended own.now) others.now }
-{
-    for place in low..high {
-        if !passes(clocks, ended, own, &others[place]) {
-            return place;
+impl<'a> Passing<'a> {
+    /// How many stretches pass before the first that does not: no fewer than the one number and no more than the other.
+    fn count_between(&self, others: &[Stretch], low: usize, high: usize) -> usize
+        requires low { low ≤ model.leading (model.passes (is_before_in self.now.clocks.now.rows) self.now.ended
+            self.now.own.now) others.now }
+        requires high { model.leading (model.passes (is_before_in self.now.clocks.now.rows) self.now.ended
+            self.now.own.now) others.now ≤ high }
+        requires within { high ≤ length others.now }
+        ensures { result ≡ model.leading (model.passes (is_before_in self.now.clocks.now.rows) self.now.ended
+            self.now.own.now) others.now }
+    {
+        for place in low..high {
+            if !passes(self.clocks, self.ended, self.own, &others[place]) {
+                return place;
+            }
         }
+        high
     }
-    high
 }
 
 /// How many stretches pass before the first that does not, found by halves.
@@ -142,17 +149,11 @@ fn count_by_halves(clocks: &Clocks, ended: bool, own: &Stretch, others: &[Stretc
     requires { model.PassFirst (model.passes (is_before_in clocks.now.rows) ended own.now) others.now }
     ensures { result ≡ model.leading (model.passes (is_before_in clocks.now.rows) ended own.now) others.now }
 {
-    let mut low = 0;
-    let mut high = others.len();
-    while low < high {
-        let middle = low + (high - low) / 2;
-        if passes(clocks, ended, own, &others[middle]) {
-            low = middle + 1;
-        } else {
-            high = middle;
-        }
-    }
-    low
+    others.partition_point(
+        |other: &Stretch| -> bool
+            ensures { result ≡ model.passes (is_before_in clocks.entry.now.rows) ended own.entry.now other.now }
+        { passes(clocks, ended, own, other) },
+    )
 }
 
 /// The places of the stretches that may overlap this one, found by halves.
@@ -205,9 +206,19 @@ pub fn range_of(clocks: &Clocks, own: &Stretch, others: &[Stretch], walk: Walk) 
     }
     let low = walk.range;
     let high = walk.limit;
+    let over = Passing {
+        clocks,
+        ended: true,
+        own,
+    };
+    let begun = Passing {
+        clocks,
+        ended: false,
+        own,
+    };
     Range {
-        from: count_passing(clocks, true, own, others, low.from, high.from),
-        upto: count_passing(clocks, false, own, others, low.upto, high.upto),
+        from: over.count_between(others, low.from, high.from),
+        upto: begun.count_between(others, low.upto, high.upto),
     }
 }
 

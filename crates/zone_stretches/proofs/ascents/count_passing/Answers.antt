@@ -1,7 +1,0 @@
-use Rattle.order_clocks.specs.Tells.{is_before_in}
-use Rattle.zone_stretches.proofs.ChainLaws.{leading_on}
-use Rattle.zone_stretches.specs.Ascents.{passes}
-use Rattle.zone_stretches.proofs.ascents.count_passing.Goals as goal
-
-pub loop-place-init : goal.loop-place-init
-loop-place-init c = leading_on (passes (is_before_in c.args.clocks.now.rows) c.args.ended c.args.own.now) c.args.others.now c.args.low c.requires.low
