@@ -1,8 +1,8 @@
 -- A whole run: its entries are what happens on the board, and its ends say which of its steps alarm.
-use Rattle.axis_sets.specs.declared.limits.TheConstants.{CHANNEL_PLACES}
+use Rattle.axis_sets.specs.declared.limits.TheConstants.{CHANNEL_LIMIT, CHANNEL_PLACES}
 use Rattle.std.proofs.Common.{◌≡◌, ℕ, zero, suc, ◌+◌, ◌<◌, ◌≤◌, ◌⊎◌, ◌↔◌, ◌==◌, ◌&&◌, ◌||◌, not, Bool, true, false, cond, inl, inr, length, List, [], ◌∷◌, map, filter, Option, Some, None, refl, sym, ap, ◌∙◌, arith, if◌then◌else◌}
-use Rattle.std.specs.Prelude.{is_some, slice_index_or}
-use Rattle.std.specs.List.{range_with_len}
+use Rattle.std.specs.Prelude.{is_some, replicate, slice_index_or}
+use Rattle.std.specs.List.{list_any, range_with_len}
 use Rattle.std.proofs.lemmas.Bool.{cases_Bool, cases_lt, eqb-true, eqb-false, eq-eqb}
 use Rattle.axis_sets.specs.Sets.{has, members_of}
 use Rattle.order_clocks.specs.Chains.{IsIn}
@@ -10,7 +10,8 @@ use Rattle.order_clocks.specs.Clocked.{moves_in}
 use Rattle.order_clocks.specs.CourseOf.{course_of}
 use Rattle.order_clocks.specs.Happenings.{Key, Raised, Freed, Started, Ended, board_at, happening_at, happening_of, gives, going_of, rests_in, rests_on}
 use Rattle.order_clocks.specs.Steps.{IsStep, gives_of, keys_of, rests_at}
-use Rattle.order_clocks.specs.Stops.{AreLastPlaces, IsWhole, TellsAlarms, alarm_at, alarms_in, are_acted, channel_at, channels_of, is_alarm_in, is_alarmed}
+use Rattle.order_clocks.specs.Stops.{AreActors, AreLastPlaces, IsWhole, TellsAlarms, alarm_at, alarms_in, are_acted, channel_at, channels_of, is_alarm_end, is_alarm_in, is_alarmed}
+use Rattle.order_clocks.specs.declared.stops.Stops.{Stops}
 use Rattle.order_clocks.specs.Watching.{IsGoingOf, IsRead, wait_in, wait_shown}
 use Rattle.step_deeds.specs.declared.deed.Deed.{Deed}
 use Rattle.step_deeds.specs.declared.deed.Departure.{Departure}
@@ -30,6 +31,7 @@ use Rattle.sync_types.specs.Runs.{ComesFrom}
 use Rattle.sync_types.specs.Starts.{has_channel, runs_at_first}
 use Rattle.sync_types.specs.Views.{EntryView, RunView, StartView}
 use Rattle.sync_types.specs.declared.ChannelEnd.{ChannelEnd}
+use Rattle.sync_types.specs.declared.ChannelEnd.TheVariants as ends
 use Rattle.step_deeds.specs.Holds.{departure_of, is_given}
 
 -- entries and moves
@@ -105,6 +107,84 @@ filter_alike p q (x ∷ xs) same = rw (same x (here (x == x) (among xs x) (eq-eq
     later : (s t : Bool) → t ≡ true → (s || t) ≡ true
     later true t on = refl
     later false t on = on
+
+-- a channel of the machine is among the numbers
+numbered : (c : ℕ) → 1 ≤ c → c < CHANNEL_PLACES → among channel_numbers c ≡ true
+numbered c from below = in_list 1 CHANNEL_LIMIT c from (omega arith)
+  where
+    first : (p q : Bool) → p ≡ true → (p || q) ≡ true
+    first p q on = rw on refl
+
+    second : (p q : Bool) → q ≡ true → (p || q) ≡ true
+    second true q on = refl
+    second false q on = on
+
+    in_list : (from count c : ℕ) → from ≤ c → c < from + count → among (range_with_len from count) c ≡ true
+    in_list from zero c low high = absurd (omega arith)
+    in_list from (suc n) c low high = elim (cases_lt from c) [
+      | inl later ↦ second (from == c) (among (range_with_len (suc from) n) c) (in_list (suc from) n c (omega arith) (omega arith))
+      | inr here ↦ first (from == c) (among (range_with_len (suc from) n) c) (eq-eqb from c (omega arith))
+    ]
+
+-- of ends of which none is an alarm no flag is set
+no_flags : (ends : List ChannelEnd) → list_any is_alarm_end ends ≡ false → list_any (λ t. t) (alarms_in ends) ≡ false
+no_flags [] none = refl
+no_flags (e ∷ es) none = by_end e refl
+  where
+    by_end : (x : ChannelEnd) → e ≡ x → list_any (λ t. t) (alarms_in (e ∷ es)) ≡ false
+    by_end ends.Idle is = rw is (no_flags es (rw is at none))
+    by_end (ends.Alarmed alarm) is = no_truth true refl (rw is at none)
+    by_end other is = rw is (no_flags es (rw is at none))
+
+-- a channel that is kept and has the flag sets one
+flag_set : (f kept : ℕ → Bool) (cs : List ℕ) (c : ℕ) → among cs c ≡ true → kept c ≡ true → f c ≡ true → list_any (λ t. t) (map f (filter kept cs)) ≡ true
+flag_set f kept [] c on keeps is = no_truth false on refl
+flag_set f kept (d ∷ ds) c on keeps is = elim (cases_Bool (d == c)) [
+  | inl same ↦ rw (eqb-true d c same, keeps, is) refl
+  | inr other ↦ by_kept (kept d) refl (flag_set f kept ds c (rw other at on) keeps is)
+]
+  where
+    by_kept : (t : Bool) → kept d ≡ t → list_any (λ t. t) (map f (filter kept ds)) ≡ true → list_any (λ t. t) (map f (filter kept (d ∷ ds))) ≡ true
+    by_kept false e rest = rw e rest
+    by_kept true e rest = rw e (later (f d) rest)
+      where
+        later : (p : Bool) → list_any (λ t. t) (map f (filter kept ds)) ≡ true → (p || list_any (λ t. t) (map f (filter kept ds))) ≡ true
+        later true on = refl
+        later false on = on
+
+-- of flags that all are down none is set
+pub unset : (n c : ℕ) → has (replicate n false) c ≡ false
+unset zero c = refl
+unset (suc n) zero = refl
+unset (suc n) (suc c) = unset n c
+
+-- where no end is an alarm no step alarms
+pub nobody_alarms : (b : Board) (es : List EntryView) (ends : List ChannelEnd) → IsWhole b es ends → AreActors es → list_any is_alarm_end ends ≡ false
+    → (stops : Stops) → ((c : ℕ) → has stops.alarmed c ≡ false) → TellsAlarms b (moves_in es) stops
+nobody_alarms b es ends whole numbers none stops off = record { alarm = at }
+  where
+    run : AreOfRunning b (moves_in es)
+    run = running_moves es b whole.entries
+
+    over : (c : ℕ) → among channel_numbers c ≡ true → is_running ((after_moves b (moves_in es)).state c) ≡ false
+    over c on = rw (sym (same_board es b)) (elim (cases_Bool (is_running ((after_entries b es).state c))) [
+      | inl runs ↦ no_truth false (rw (some_pass (λ d. is_running ((after_entries b es).state d)) channel_numbers c on runs) at whole.over) refl
+      | inr stands ↦ stands
+    ])
+
+    all : alarms_in ends ≡ map (λ c. is_alarmed ((after_moves b (moves_in es)).state c)) (filter (λ c. not (is_idle ((after_moves b (moves_in es)).state c))) channel_numbers)
+    all = rw (whole.ends_are, same_board es b) (ends_are (after_moves b (moves_in es)) channel_numbers (awake_channels (moves_in es) b run whole.awake) over)
+
+    at : (i : ℕ) → i < length (moves_in es) → is_alarm_in stops i (channel_at (channels_of (moves_in es)) i) ≡ alarm_at b (moves_in es) i
+    at i within = rw (off (channel_at (channels_of (moves_in es)) i)) (elim (cases_Bool (alarm_at b (moves_in es) i)) [
+      | inr quiet ↦ sym quiet
+      | inl alarms ↦
+          let ends_so = (alarm_ends (moves_in es) b i run within alarms).0 in
+          let awake : not (is_idle ((after_moves b (moves_in es)).state (channel_at (channels_of (moves_in es)) i))) ≡ true = ap not (acted_awake (moves_in es) b i within) in
+          let here = rw (sym (same_channels es)) at (numbers i (rw (sym (moves_size es)) within)) in
+          no_truth false (flag_set (λ c. is_alarmed ((after_moves b (moves_in es)).state c)) (λ c. not (is_idle ((after_moves b (moves_in es)).state c))) channel_numbers
+          (channel_at (channels_of (moves_in es)) i) (numbered _ here.0 here.1) awake ends_so) (rw all at (no_flags ends none))
+    ])
 
 -- which steps alarm
 pub stops_tell : (b : Board) (es : List EntryView) (ends : List ChannelEnd) (last : List ℕ) (alarmed : List Bool) → IsWhole b es ends → AreLastPlaces (map (λ e. e.channel) es) (length es) last

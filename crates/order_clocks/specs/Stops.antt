@@ -1,5 +1,6 @@
 -- Steps. Which channels have acted and have alarmed, as the code finds it from the ends of a run.
-use Rattle.std.specs.Prelude.{◌≡◌, ℕ, zero, suc, ◌∷◌, is_some, ◌+◌, ◌<◌, ◌==◌, ◌&&◌, ◌||◌, not, Bool, true, false, List, [], map, filter, length, slice_index_or}
+use Rattle.axis_sets.specs.declared.limits.TheConstants.{CHANNEL_PLACES}
+use Rattle.std.specs.Prelude.{◌≡◌, ◌≤◌, ℕ, zero, suc, ◌∷◌, is_some, ◌+◌, ◌<◌, ◌==◌, ◌&&◌, ◌||◌, not, Bool, true, false, List, [], map, filter, length, slice_index_or}
 use Rattle.sync_types.specs.Boards.{State, HasAlarmed, Board, is_idle, is_running}
 use Rattle.sync_types.specs.declared.ChannelEnd.{ChannelEnd}
 use Rattle.sync_types.specs.declared.ChannelEnd.TheVariants as end
@@ -31,6 +32,10 @@ alarms_in ends = map is_alarm_end (filter (λ e. not (is_idle_end e)) ends)
 -- the channel of an entry
 abbrev pub channel_at : List ℕ → ℕ → ℕ
 channel_at channels i = slice_index_or channels i 0
+
+-- who acts in each entry is a channel of the machine
+abbrev pub AreActors : List EntryView → Type 0
+AreActors es = (i : ℕ) → i < length es → (1 ≤ channel_at (map (λ e. e.channel) es) i) × (channel_at (map (λ e. e.channel) es) i < CHANNEL_PLACES)
 
 -- for each channel one more than the place of its last entry among the first so many, 0 where it has none
 pub record AreLastPlaces (channels : List ℕ) (count : ℕ) (last : List ℕ) : Type 0 where

@@ -2,7 +2,8 @@
 ghost use Rattle.axis_sets.specs.declared.limits.TheConstants.{CHANNEL_PLACES};
 ghost use Rattle.std.specs.Prelude.{◌≡◌, ℕ, ◌+◌, ◌^◌, ◌<◌, ◌≤◌, ◌==◌, ◌&&◌, not, Bool, true, false, List, [], ◌∷◌, map, filter, length, drop, slice_index, slice_index_or};
 ghost use Rattle.axis_sets.specs.Sets.{has};
-ghost use Rattle.order_clocks.specs.Stops.{AreLastPlaces, alarms_in, is_alarm_end, is_idle_end, no_end, are_acted, channel_at, IsWhole, TellsAlarms, is_alarm_in};
+ghost use Rattle.std.specs.List.{list_any};
+ghost use Rattle.order_clocks.specs.Stops.{AreActors, AreLastPlaces, alarms_in, is_alarm_end, is_idle_end, no_end, are_acted, IsWhole, TellsAlarms, is_alarm_in};
 ghost use Rattle.order_clocks.specs.Clocked.{moves_in};
 ghost use Rattle.sync_types.specs.Boards.{Board, channel_numbers};
 
@@ -21,8 +22,7 @@ pub(crate) fn actor_of(entry: &Entry) -> usize
 /// For each channel one more than the place of its last entry; 0 where it has none.
 pub(crate) fn last_places(entries: &[Entry]) -> [usize; CHANNEL_PLACES]
     ensures places { AreLastPlaces (map (λ e. e.channel) entries.now) (length entries.now) result }
-    ensures channels { (i : ℕ) → i < length entries.now → (1 ≤ channel_at (map (λ e. e.channel) entries.now) i)
-        × (channel_at (map (λ e. e.channel) entries.now) i < CHANNEL_PLACES) }
+    ensures channels { AreActors entries.now }
     ensures size { length result ≡ CHANNEL_PLACES }
 {
     let mut last = [0; CHANNEL_PLACES];
@@ -31,6 +31,15 @@ pub(crate) fn last_places(entries: &[Entry]) -> [usize; CHANNEL_PLACES]
         last[c] = i + 1;
     }
     last
+}
+
+/// Sees that who acts in an entry is a channel of the machine. It runs for the proof alone.
+pub(crate) fn see_actors(entries: &[Entry])
+    ensures { AreActors entries.now }
+{
+    for i in 0..entries.len() {
+        let _number = actor_of(&entries[i]);
+    }
 }
 
 /// Whether a channel has not started.
@@ -123,11 +132,33 @@ impl Stops {
     }
 }
 
-/// Which steps of a whole run alarm.
-pub(crate) fn stops_of(entries: &[Entry], ends: &[ChannelEnd]) -> Stops
+/// Whether an alarm has stopped a channel of these.
+pub(crate) fn has_alarm(ends: &[ChannelEnd]) -> bool
+    ensures { result ≡ list_any is_alarm_end ends.now }
+{
+    ends.iter().any(|end| is_alarm(end))
+}
+
+/// The stops of channels that have acted, by who acted last where.
+fn stops_by_places(entries: &[Entry], ends: &[ChannelEnd]) -> Stops
     ensures { (b : Board) → IsWhole b entries.now ends.now → TellsAlarms b (moves_in entries.now) result }
 {
     let last = last_places(entries);
     let alarmed = alarmed_of(&last, ends);
     Stops { last, alarmed }
+}
+
+/// Which steps of a whole run alarm. Where no channel has an alarm none does, and the entries are not read: they are many.
+pub(crate) fn stops_of(entries: &[Entry], ends: &[ChannelEnd]) -> Stops
+    ensures { (b : Board) → IsWhole b entries.now ends.now → TellsAlarms b (moves_in entries.now) result }
+{
+    see_actors(entries);
+    if has_alarm(ends) {
+        stops_by_places(entries, ends)
+    } else {
+        Stops {
+            last: [0; CHANNEL_PLACES],
+            alarmed: [false; CHANNEL_PLACES],
+        }
+    }
 }

@@ -1,5 +1,8 @@
-use Rattle.order_clocks.proofs.WholeLaws.{stops_tell}
+use Rattle.axis_sets.specs.declared.limits.TheConstants.{CHANNEL_PLACES}
+use Rattle.std.proofs.Common.{sym, ◌∙◌}
+use Rattle.order_clocks.proofs.WholeLaws.{nobody_alarms, unset}
 use Rattle.order_clocks.proofs.stops.stops_of.Goals as goal
 
-pub returns : goal.returns
-returns c = λ b whole. stops_tell b c.args.entries.now c.args.ends.now c.last_places-last.result c.alarmed_of-alarmed.result whole c.last_places-last.ensures.places c.last_places-last.ensures.channels c.alarmed_of-alarmed.ensures
+pub returns-else-has_alarm : goal.returns-else-has_alarm
+returns-else-has_alarm c = λ b whole. nobody_alarms b c.args.entries.now c.args.ends.now whole c.see_actors.ensures
+    (sym c.has_alarm.ensures ∙ c.if-has_alarm.false) _ (unset CHANNEL_PLACES)
