@@ -2,7 +2,7 @@
 use Rattle.std.proofs.Common.{◌≡◌, ℕ, zero, suc, ◌<◌, ◌==◌, ◌||◌, ◌⊎◌, inl, inr, Bool, true, false, List, [], ◌∷◌, length, None, refl, sym, ap, ap₂, subst, ◌∙◌, arith}
 use Rattle.std.proofs.lemmas.Bool.{cases_Bool, eqb-true, eq-eqb}
 use Rattle.coordination_tests.proofs.Soundness.{sound_by_tests}
-use Rattle.coordination_tests.specs.MarkRows.{two_channels}
+use Rattle.coordination_tests.specs.MarkClocks.{two_channels}
 use Rattle.coordination_tests.specs.Play.{at_line, channels, marks}
 use Rattle.order_clocks.specs.Chains.{IsIn}
 use Rattle.order_clocks.specs.Happenings.{board_at, happening_at}

@@ -1,6 +1,6 @@
 -- Law. Which events of worked runs are one.
 use Rattle.std.specs.Prelude.{ℕ, true, false, List, [], ◌∷◌}
-use Rattle.coordination_tests.specs.MarkRows.{three_channels}
+use Rattle.coordination_tests.specs.MarkClocks.{three_channels}
 use Rattle.coordination_tests.specs.Play.{channels, marks, at_line, moves_in_order}
 use Rattle.sync_types.specs.Boards.{first_board}
 use Rattle.sync_types.specs.Events.{AreOne, IsEvent}

@@ -1,7 +1,7 @@
 pub mod AxisRows
 pub mod EventRows
 pub mod GrantRows
-pub mod MarkRows
+pub mod MarkClocks
 pub mod Meetings
 pub mod Play
 pub mod StartRows

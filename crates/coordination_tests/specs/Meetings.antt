@@ -1,6 +1,6 @@
 -- Law. A script with a maximal run without a race, and with another maximal run.
 use Rattle.std.specs.Prelude.{◌≡◌, ℕ, List, [], ◌∷◌}
-use Rattle.coordination_tests.specs.MarkRows.{two_channels}
+use Rattle.coordination_tests.specs.MarkClocks.{two_channels}
 use Rattle.coordination_tests.specs.Play.{at_line, channels, marks, script_of}
 use Rattle.schedule_laws.specs.Schedules.{IsMaximalOf, IsQuietRun, HaveSameResult}
 use Rattle.sync_types.specs.Runs.{Script, IsSequential, first_stage}

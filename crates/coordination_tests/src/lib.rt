@@ -3,7 +3,7 @@
 //! Each clause is computed from the definitions alone, and no code runs for it.
 #![tactic(auto)]
 
-ghost use Rattle.coordination_tests.specs.MarkRows.{ThreeMeetFiveTimes, LoweredTooSoon, LoweredLater, TwoOfThreeMeet, OwnMarkStands, OwnMarkAlone, SomeMarksLowered, EveryMarkLowered, MarkOutOfRange, ChannelUnknown, OneOfTwoGoes};
+ghost use Rattle.coordination_tests.specs.MarkClocks.{ThreeMeetFiveTimes, LoweredTooSoon, LoweredLater, TwoOfThreeMeet, OwnMarkStands, OwnMarkAlone, SomeMarksLowered, EveryMarkLowered, MarkOutOfRange, ChannelUnknown, OneOfTwoGoes};
 ghost use Rattle.coordination_tests.specs.AxisRows.{TurretAndSlide, AxisIsHandedOn, AxisIsTakenBack, AxisStaysFree, TwoAxesInTwoSteps, LowerTakesFirst, OwnAxesAreTaken, NotOwned, ZoneIsSplit, one_slide};
 ghost use Rattle.coordination_tests.specs.StartRows.{StartedAndAwaited, StartedTwice, AwaitedInVain, NoneStarts, AwakeBeforeProgram, BothStart, AwaitsItself};
 ghost use Rattle.coordination_tests.specs.GrantRows.{WhoLetsGo, WhoTakes, WhoIsStarted, ZoneGoesOff};

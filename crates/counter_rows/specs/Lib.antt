@@ -1,3 +1,3 @@
-pub mod MarkRows
+pub mod MarkClocks
 pub mod Rows
 pub mod Tables

@@ -2,11 +2,11 @@
 ghost use Rattle.std.specs.Prelude.{◌≡◌, ℕ, ◌<◌, ◌==◌, length, [], slice_index_or, if◌then◌else◌};
 ghost use Rattle.axis_sets.specs.declared.limits.TheConstants.{CHANNEL_PLACES};
 
-use crate::Row;
+use crate::VectorClock;
 use axis_sets::CHANNEL_PLACES;
 
 /// Writes the row at a channel.
-pub fn put_at(rows: &mut [Row; CHANNEL_PLACES], channel: usize, row: Row)
+pub fn put_at(rows: &mut [VectorClock; CHANNEL_PLACES], channel: usize, row: VectorClock)
     requires { channel < CHANNEL_PLACES }
     ensures rows { (d : ℕ) → slice_index_or rows.new d []
         ≡ (if d == channel then row else slice_index_or rows.old d []) }
@@ -16,7 +16,7 @@ pub fn put_at(rows: &mut [Row; CHANNEL_PLACES], channel: usize, row: Row)
 }
 
 /// The row at a channel.
-pub fn at_channel(rows: &[Row; CHANNEL_PLACES], channel: usize) -> Row
+pub fn at_channel(rows: &[VectorClock; CHANNEL_PLACES], channel: usize) -> VectorClock
     requires { channel < CHANNEL_PLACES }
     ensures { result ≡ slice_index_or rows.now channel [] }
 {

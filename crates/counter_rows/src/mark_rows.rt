@@ -1,11 +1,11 @@
 //! Rows by mark and channel, on the heap.
 ghost use Rattle.axis_sets.specs.Sets.{has, members_of};
 ghost use Rattle.axis_sets.specs.declared.limits.TheConstants.{CHANNEL_PLACES, MARK_LIMIT};
-ghost use Rattle.counter_rows.specs.MarkRows.{row_in};
+ghost use Rattle.counter_rows.specs.MarkClocks.{row_in};
 ghost use Rattle.counter_rows.specs.Rows.{top, count_of};
 ghost use Rattle.std.specs.Prelude.{◌≡◌, ℕ, ◌<◌, ◌==◌, ◌&&◌, max, [], slice_index_or, IfOk, if◌then◌else◌};
 
-use crate::Row;
+use crate::VectorClock;
 use crate::columns::{at_channel, put_at};
 use crate::notes::{note_at, note_chosen};
 use axis_sets::{CHANNEL_PLACES, MARK_LIMIT, MarkSet};
@@ -15,11 +15,11 @@ use std::marker::Model;
 
 /// For each mark a row for each channel, on the heap. A contract sees for each mark the list of these rows.
 #[derive(Drop)]
-pub struct MarkRows {
-    rows: Vec<[Row; CHANNEL_PLACES]>,
+pub struct MarkClocks {
+    rows: Vec<[VectorClock; CHANNEL_PLACES]>,
 }
 
-impl Model for MarkRows {
+impl Model for MarkClocks {
     ghost use Rattle.axis_sets.specs.declared.limits.TheConstants.{MARK_LIMIT};
     ghost use Rattle.std.specs.Prelude.{◌≡◌, ℕ, List, length};
 
@@ -30,25 +30,25 @@ impl Model for MarkRows {
     ghost invariant = { λ m. length m.rows.items ≡ MARK_LIMIT };
 }
 
-impl MarkRows {
+impl MarkClocks {
     /// No event. `NoMemory` where there is too little.
-    pub fn new(alloc: Global) -> Result<MarkRows, NoMemory>
+    pub fn new(alloc: Global) -> Result<MarkClocks, NoMemory>
         ensures { IfOk result (λ rows. (m d c : ℕ) → count_of (row_in rows m d) c ≡ 0) }
     {
-        let rows = vec![in alloc; [Row::zero(); CHANNEL_PLACES]; MARK_LIMIT]?;
-        Ok(MarkRows { rows })
+        let rows = vec![in alloc; [VectorClock::zero(); CHANNEL_PLACES]; MARK_LIMIT]?;
+        Ok(MarkClocks { rows })
     }
 
     /// The same rows, to be changed apart. `NoMemory` where there is too little.
-    pub fn copied(&self) -> Result<MarkRows, NoMemory>
+    pub fn copied(&self) -> Result<MarkClocks, NoMemory>
         ensures { IfOk result (λ rows. rows ≡ self.now) }
     {
         let rows = self.rows.clone()?;
-        Ok(MarkRows { rows })
+        Ok(MarkClocks { rows })
     }
 
     /// The rows of a mark.
-    pub fn row(&self, mark: usize) -> &[Row; CHANNEL_PLACES]
+    pub fn row(&self, mark: usize) -> &[VectorClock; CHANNEL_PLACES]
         requires { mark < MARK_LIMIT }
         ensures { result.now ≡ slice_index_or self.now mark [] }
     {
@@ -56,7 +56,7 @@ impl MarkRows {
     }
 
     /// Writes the row at one channel of each mark of a set.
-    pub fn put_marks(&mut self, marks: &MarkSet, channel: usize, row: Row)
+    pub fn put_marks(&mut self, marks: &MarkSet, channel: usize, row: VectorClock)
         requires { channel < CHANNEL_PLACES }
         ensures rows { (m d : ℕ) → row_in self.new m d
             ≡ (if has marks.now m && (d == channel) then row else row_in self.old m d) }
@@ -121,7 +121,7 @@ impl MarkRows {
     }
 
     /// The greatest numbers of a row and of those of a channel at the marks of a set.
-    pub fn most_of_marks(&self, marks: &MarkSet, channel: usize, start: Row) -> Row
+    pub fn most_of_marks(&self, marks: &MarkSet, channel: usize, start: VectorClock) -> VectorClock
         requires { channel < CHANNEL_PLACES }
         ensures counts { (c : ℕ) → count_of result c
             ≡ max (count_of start c) (top (λ m. count_of (row_in self.now m channel) c) (members_of marks.now)) }

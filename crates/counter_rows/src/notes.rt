@@ -4,12 +4,12 @@ ghost use Rattle.axis_sets.specs.declared.limits.TheConstants.{CHANNEL_PLACES};
 ghost use Rattle.axis_sets.specs.Sets.{has};
 ghost use Rattle.counter_rows.specs.Rows.{count_of};
 
-use crate::Row;
+use crate::VectorClock;
 use axis_sets::CHANNEL_PLACES;
 
 /// Writes the number of a channel in each chosen row.
 pub fn note_chosen<const N: usize>(
-    rows: &mut [Row; N],
+    rows: &mut [VectorClock; N],
     chosen: &[bool; N],
     channel: usize,
     count: u64,
@@ -27,7 +27,7 @@ pub fn note_chosen<const N: usize>(
 }
 
 /// Writes the number of a channel in its own row.
-pub fn note_at(rows: &mut [Row; CHANNEL_PLACES], channel: usize, count: u64)
+pub fn note_at(rows: &mut [VectorClock; CHANNEL_PLACES], channel: usize, count: u64)
     requires { channel < CHANNEL_PLACES }
     ensures rows { (d c : ℕ) → count_of (slice_index_or rows.new d []) c
         ≡ (if (d == channel) && (c == channel) then count else count_of (slice_index_or rows.old d []) c) }

@@ -8,11 +8,11 @@ use std::marker::Model;
 
 /// For each channel below 9 a number of its events. A contract sees the list of these numbers.
 #[derive(Clone, Copy)]
-pub struct Row {
+pub struct VectorClock {
     counts: [u64; CHANNEL_PLACES],
 }
 
-impl Model for Row {
+impl Model for VectorClock {
     ghost use Rattle.std.specs.Prelude.{ℕ, List};
 
     ghost Value = { List ℕ };
@@ -22,13 +22,13 @@ impl Model for Row {
     ghost inverse = { λ counts. record { counts = counts } };
 }
 
-impl Row {
+impl VectorClock {
     /// No event.
-    pub fn zero() -> Row
+    pub fn zero() -> VectorClock
         ensures counts { (c : ℕ) → count_of result c ≡ 0 }
         ensures size { length result ≡ CHANNEL_PLACES }
     {
-        Row {
+        VectorClock {
             counts: [0; CHANNEL_PLACES],
         }
     }
@@ -46,7 +46,7 @@ impl Row {
     }
 
     /// The greater number of each channel.
-    pub fn most(mut self, other: Row) -> Row
+    pub fn most(mut self, other: VectorClock) -> VectorClock
         ensures counts { (c : ℕ) → count_of result c ≡ max (count_of self c) (count_of other c) }
         ensures size { length result ≡ CHANNEL_PLACES }
     {
@@ -59,7 +59,7 @@ impl Row {
     }
 
     /// One event more of a channel.
-    pub fn counted(mut self, channel: usize) -> Row
+    pub fn counted(mut self, channel: usize) -> VectorClock
         requires channel { channel < CHANNEL_PLACES }
         requires room { count_of self channel + 1 < 2 ^ 64 }
         ensures counts { (c : ℕ) → count_of result c
@@ -71,7 +71,7 @@ impl Row {
     }
 
     /// This number for a channel.
-    pub fn put(mut self, channel: usize, count: u64) -> Row
+    pub fn put(mut self, channel: usize, count: u64) -> VectorClock
         requires channel { channel < CHANNEL_PLACES }
         ensures counts { (c : ℕ) → count_of result c ≡ (if c == channel then count else count_of self c) }
         ensures size { length result ≡ CHANNEL_PLACES }
@@ -81,7 +81,7 @@ impl Row {
     }
 
     /// Whether the number of some other channel is below its limit.
-    pub fn misses(&self, limit: &Row, but: usize) -> bool
+    pub fn misses(&self, limit: &VectorClock, but: usize) -> bool
         ensures { IsTrue result ↔ IsMissed but self.now limit.now }
     {
         let _size = limit.at(0);

@@ -2,13 +2,13 @@
 ghost use Rattle.std.specs.Prelude.{◌≡◌, ℕ, [], slice_index_or, if◌then◌else◌};
 ghost use Rattle.axis_sets.specs.Sets.{has};
 
-use crate::Row;
+use crate::VectorClock;
 use crate::flags::{axis_flags, channel_flags};
 use crate::gather::put_chosen;
 use axis_sets::{AXIS_LIMIT, AxisSet, CHANNEL_PLACES, ChannelSet};
 
 /// Writes the row of each axis.
-pub fn put_axes(rows: &mut [Row; AXIS_LIMIT], axes: &AxisSet, row: Row)
+pub fn put_axes(rows: &mut [VectorClock; AXIS_LIMIT], axes: &AxisSet, row: VectorClock)
     ensures rows { (x : ℕ) → slice_index_or rows.new x []
         ≡ (if has axes.now x then row else slice_index_or rows.old x []) }
 {
@@ -18,7 +18,11 @@ pub fn put_axes(rows: &mut [Row; AXIS_LIMIT], axes: &AxisSet, row: Row)
 }
 
 /// Writes the row of each channel.
-pub fn put_channels(rows: &mut [Row; CHANNEL_PLACES], channels: &ChannelSet, row: Row)
+pub fn put_channels(
+    rows: &mut [VectorClock; CHANNEL_PLACES],
+    channels: &ChannelSet,
+    row: VectorClock,
+)
     ensures rows { (c : ℕ) → slice_index_or rows.new c []
         ≡ (if has channels.now c then row else slice_index_or rows.old c []) }
 {

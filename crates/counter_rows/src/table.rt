@@ -5,7 +5,7 @@ ghost use Rattle.counter_rows.specs.Rows.{count_of};
 ghost use Rattle.counter_rows.specs.Tables.{act_in, go_in, place_in, row_at};
 ghost use Rattle.std.specs.Prelude.{◌≡◌, ℕ, ◌+◌, ◌<◌, ◌≤◌, true, false, List, [], length, slice_index, slice_index_or, IfOk, IsOk, if◌then◌else◌};
 
-use crate::Row;
+use crate::VectorClock;
 use axis_sets::CHANNEL_PLACES;
 use out_of_memory::NoMemory;
 use std::alloc::Global;
@@ -13,21 +13,21 @@ use std::marker::Model;
 
 /// The rows of the events of one step.
 #[derive(Clone, Copy)]
-pub struct StepRows {
+pub struct StepClocks {
     /// Of the act.
-    pub act: Row,
+    pub act: VectorClock,
     /// By channel: of the channel that goes on.
-    pub goes: [Row; CHANNEL_PLACES],
+    pub goes: [VectorClock; CHANNEL_PLACES],
 }
 
-impl StepRows {
+impl StepClocks {
     /// No event: a place for the rows of a step.
-    pub fn none() -> StepRows
+    pub fn none() -> StepClocks
         ensures act { (c : ℕ) → count_of result.act c ≡ 0 }
         ensures goes { (d c : ℕ) → count_of (slice_index_or result.goes d []) c ≡ 0 }
     {
-        let zero = Row::zero();
-        StepRows {
+        let zero = VectorClock::zero();
+        StepClocks {
             act: zero,
             goes: [zero; CHANNEL_PLACES],
         }
@@ -45,12 +45,12 @@ pub struct StepPlaces {
 
 /// The rows of the events of steps, one after another. A channel that does not go on in a step takes no room.
 #[derive(Drop)]
-pub struct RowTable {
-    rows: Vec<Row>,
+pub struct ClockTable {
+    rows: Vec<VectorClock>,
     steps: Vec<StepPlaces>,
 }
 
-impl Model for RowTable {
+impl Model for ClockTable {
     ghost use Rattle.counter_rows.specs.Tables.{TableView, IsWhole};
 
     ghost Value = { TableView };
@@ -62,8 +62,8 @@ impl Model for RowTable {
 
 /// Puts the rows of a step after the others, and tells where they stand.
 pub(crate) fn push_rows(
-    list: &mut Vec<Row>,
-    rows: &StepRows,
+    list: &mut Vec<VectorClock>,
+    rows: &StepClocks,
     goes: &[bool; CHANNEL_PLACES],
 ) -> Result<StepPlaces, NoMemory>
     ensures kept { IfOk result (λ places. (k : ℕ) → k < length list.old.items → slice_index_or list.new.items k []
@@ -91,19 +91,19 @@ pub(crate) fn push_rows(
     })
 }
 
-impl RowTable {
+impl ClockTable {
     /// A table of no step, with room for so many steps and events. `NoMemory` where there is too little.
-    pub fn new(alloc: Global, steps: usize, events: usize) -> Result<RowTable, NoMemory>
+    pub fn new(alloc: Global, steps: usize, events: usize) -> Result<ClockTable, NoMemory>
         ensures { IfOk result (λ table. length table.steps ≡ 0) }
     {
-        Ok(RowTable {
+        Ok(ClockTable {
             rows: Vec::with_capacity(alloc, events)?,
             steps: Vec::with_capacity(alloc, steps)?,
         })
     }
 
     /// Adds the rows of a step. `NoMemory` where there is too little.
-    pub fn push(&mut self, rows: &StepRows, goes: &[bool; CHANNEL_PLACES]) -> Result<(), NoMemory>
+    pub fn push(&mut self, rows: &StepClocks, goes: &[bool; CHANNEL_PLACES]) -> Result<(), NoMemory>
         ensures size { IsOk result → length self.new.steps ≡ length self.old.steps + 1 }
         ensures kept { IsOk result → (i c : ℕ) → i < length self.old.steps → (act_in self.new i ≡ act_in self.old i)
             × (go_in self.new i c ≡ go_in self.old i c) }

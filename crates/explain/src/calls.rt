@@ -59,7 +59,7 @@ fn explain_files<R: Files + Input + Print + Eprint + Clock>(
         Ok(input) => input,
         Err(status) => return status.number(),
     };
-    let mut watch = Progress::start(ends.rt, ends.is_told);
+    let mut watch = Progress::start(ends.rt, ends.shows_progress);
     match answer_input(ends.alloc, input.as_slice(), form, &mut watch) {
         Ok(answer) => write_answer(ends, &answer, form),
         Err(_) => ends.say_no_memory().number(),

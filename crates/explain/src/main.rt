@@ -30,7 +30,7 @@ fn main(rt: HostRuntime) -> ExitCode {
         rt: &rt,
         error: &error,
         alloc: rt.alloc(),
-        is_told: error.is_terminal(),
+        shows_progress: error.is_terminal(),
     };
     ExitCode::from(answer_arguments(&ends, env::args(&rt)))
 }

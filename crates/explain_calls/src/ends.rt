@@ -27,7 +27,7 @@ pub struct Ends<'a, R> {
     /// Where memory comes from.
     pub alloc: Global,
     /// Whether progress is told.
-    pub is_told: bool,
+    pub shows_progress: bool,
 }
 
 impl<R> Ends<'_, R> {

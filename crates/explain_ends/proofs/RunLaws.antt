@@ -9,7 +9,7 @@ use Rattle.order_clocks.specs.Happenings.{Happening, board_at, happening_at, hap
 use Rattle.order_clocks.specs.Watching.{IsRead, wait_in}
 use Rattle.explain_ends.specs.LastBoards.{IsTold}
 use Rattle.explain_ends.specs.declared.boards.LastBoard.{LastBoard}
-use Rattle.step_deeds.specs.declared.deed.Deed.{Deed}
+use Rattle.step_deeds.specs.declared.deed.StepEvents.{StepEvents}
 use Rattle.sync_types.specs.Boards.{Board, first_board, first_state, is_running, owner_of, ownership_of}
 use Rattle.sync_types.specs.Starts.{first_owner, first_position, runs_at_first}
 use Rattle.sync_types.specs.Turns.{AreEntries, after_entries, after_step}
@@ -22,7 +22,7 @@ board_at_end [] b = refl
 board_at_end (e ∷ es) b = board_at_end es (after_step b e.channel e.step)
 
 -- one step more
-with_entry : (es : List EntryView) (b : Board) (i : ℕ) (e : EntryView) (old new : LastBoard) (deed : Deed) → i < length es → AreEntries b es → IsRead deed (happening_at b (moves_in es) i)
+with_entry : (es : List EntryView) (b : Board) (i : ℕ) (e : EntryView) (old new : LastBoard) (deed : StepEvents) → i < length es → AreEntries b es → IsRead deed (happening_at b (moves_in es) i)
     → ((a : Board) (c : ℕ) (step : Step) → IsTold old a → is_running (a.state c) ≡ true → IsRead deed (happening_of a c step) → IsTold new (after_step a c step))
     → IsTold old (board_at b (moves_in es) i) → IsTold new (board_at b (moves_in es) (suc i))
 with_entry es b i e old new deed within are read tells told =
@@ -31,7 +31,7 @@ with_entry es b i e old new deed within are read tells told =
     subst (λ (a : Board). IsTold new a) (sym at.next)
     (tells (board_at b (moves_in es) i) one.channel one.step told at.running (subst (λ (h : Happening). IsRead deed h) at.happening read))
 
-pub step_told : (es : List EntryView) (b : Board) (i : ℕ) (old new : LastBoard) (deed : Deed) → i < length es → AreEntries b es → IsRead deed (happening_at b (moves_in es) i)
+pub step_told : (es : List EntryView) (b : Board) (i : ℕ) (old new : LastBoard) (deed : StepEvents) → i < length es → AreEntries b es → IsRead deed (happening_at b (moves_in es) i)
     → ((a : Board) (c : ℕ) (step : Step) → IsTold old a → is_running (a.state c) ≡ true → IsRead deed (happening_of a c step) → IsTold new (after_step a c step))
     → IsTold old (board_at b (moves_in es) i) → IsTold new (board_at b (moves_in es) (suc i))
 step_told [] b i old new deed within are read tells told = absurd (omega arith)

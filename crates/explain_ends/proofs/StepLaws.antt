@@ -14,11 +14,11 @@ use Rattle.explain_ends.specs.LastBoards.{IsTold, taker_upto, took_by}
 use Rattle.explain_ends.specs.declared.boards.LastBoard.{LastBoard}
 use Rattle.explain_ends.proofs.TakeLaws.{channel_within, freed_in_step, kept_in_step, taken_in_step}
 use Rattle.step_deeds.specs.Holds.{is_given, lowers_at}
-use Rattle.step_deeds.specs.declared.deed.Deed.{Deed}
-use Rattle.step_deeds.specs.declared.deed.Departure.{Departure}
+use Rattle.step_deeds.specs.declared.deed.StepEvents.{StepEvents}
+use Rattle.step_deeds.specs.declared.deed.Wakeup.{Wakeup}
 use Rattle.step_deeds.specs.declared.deed.Hold as code
 use Rattle.step_deeds.specs.declared.deed.Hold.TheVariants.{Marks, Ends, Axes}
-use Rattle.step_deeds.specs.declared.deed.HoldAtLine.{HoldAtLine}
+use Rattle.step_deeds.specs.declared.deed.WaitAt.{WaitAt}
 use Rattle.sync_types.proofs.BoardTests.{no_truth}
 use Rattle.sync_types.specs.BoardActions.{after_own_part, channels_started}
 use Rattle.sync_types.specs.BoardAlarms.{alarm_of}
@@ -40,7 +40,7 @@ lowers_by_wait (IsHolding (AtEnds named) line) m = refl
 lowers_by_wait (IsHolding (AtAxes axes) line) m = refl
 lowers_by_wait other m = refl
 
-kept_lowers : (held : Option HoldAtLine) (m : ℕ) → lowers_at held m ≡ wait_lowers (wait_shown held) m
+kept_lowers : (held : Option WaitAt) (m : ℕ) → lowers_at held m ≡ wait_lowers (wait_shown held) m
 kept_lowers (Some held) m = by_hold held.hold held.line
   where
     by_hold : (h : code.Hold) (line : ℕ) → lowers_at (Some (record { hold = h; line = line })) m ≡ wait_lowers (wait_shown (Some (record { hold = h; line = line }))) m
@@ -57,34 +57,34 @@ own_marks true false = refl
 own_marks false true = refl
 own_marks false false = refl
 
-begun_kept : (begins : Option code.Hold) (line : ℕ) (old : Option HoldAtLine) → wait_shown old ≡ None → wait_shown (begun_at begins line old) ≡ with_line line (begun_shown begins)
+begun_kept : (begins : Option code.Hold) (line : ℕ) (old : Option WaitAt) → wait_shown old ≡ None → wait_shown (begun_at begins line old) ≡ with_line line (begun_shown begins)
 begun_kept (Some hold) line old none = refl
 begun_kept None line old none = none
 
 -- who goes on, as the code has it
-given_is : (gone : Option Departure) (going : Option Going) → IsGoingOf gone going → is_given gone ≡ is_some going
+given_is : (gone : Option Wakeup) (going : Option Going) → IsGoingOf gone going → is_given gone ≡ is_some going
 given_is (Some gone) (Some g) is = refl
 given_is (Some gone) None is = absurd is
 given_is None (Some g) is = absurd is
 given_is None None is = refl
 
-shown_either : (t : Bool) (held : Option HoldAtLine) → wait_shown (if t then None else held) ≡ (if t then None else wait_shown held)
+shown_either : (t : Bool) (held : Option WaitAt) → wait_shown (if t then None else held) ≡ (if t then None else wait_shown held)
 shown_either true held = refl
 shown_either false held = refl
 
 -- ---- owners
 
 -- who takes an axis, as the code has it
-taken_is : (gone : Option Departure) (going : Option Going) (x : ℕ) → IsGoingOf gone going → took_by gone x ≡ true → (g : Going) × (going ≡ Some g) × (among g.took x ≡ true)
+taken_is : (gone : Option Wakeup) (going : Option Going) (x : ℕ) → IsGoingOf gone going → took_by gone x ≡ true → (g : Going) × (going ≡ Some g) × (among g.took x ≡ true)
 taken_is (Some gone) (Some g) x is on = (g, refl, sym (is.took x) ∙ on)
 taken_is (Some gone) None x is on = absurd is
 taken_is None going x is on = no_truth false on refl
 
-takes_is : (gone : Option Departure) (g : Going) (x : ℕ) → IsGoingOf gone (Some g) → among g.took x ≡ true → took_by gone x ≡ true
+takes_is : (gone : Option Wakeup) (g : Going) (x : ℕ) → IsGoingOf gone (Some g) → among g.took x ≡ true → took_by gone x ≡ true
 takes_is (Some gone) g x is on = is.took x ∙ on
 takes_is None g x is on = absurd is
 
-upto_is : (goes : List (Option Departure)) (x : ℕ) (before after : Option ℕ) → ((m : ℕ) → took_by (slice_index_or goes m None) x ≡ true → after ≡ Some m) → (n : ℕ)
+upto_is : (goes : List (Option Wakeup)) (x : ℕ) (before after : Option ℕ) → ((m : ℕ) → took_by (slice_index_or goes m None) x ≡ true → after ≡ Some m) → (n : ℕ)
     → (taker_upto goes n x before ≡ after) ⊎ ((taker_upto goes n x before ≡ before) × ((m : ℕ) → 1 ≤ m → m ≤ n → took_by (slice_index_or goes m None) x ≡ false))
 upto_is goes x before after taken zero = inr (refl, λ m from below. absurd (omega arith))
 upto_is goes x before after taken (suc n) = elim (cases_Bool (took_by (slice_index_or goes (suc n) None) x)) [
@@ -104,7 +104,7 @@ upto_is goes x before after taken (suc n) = elim (cases_Bool (took_by (slice_ind
 -- ---- a whole step
 
 -- what is told before a step, and what the code makes of it
-pub record IsStepOf (old new : LastBoard) (deed : Deed) : Type 0 where
+pub record IsStepOf (old new : LastBoard) (deed : StepEvents) : Type 0 where
   pub mid : LastBoard
   pub own_marks : (c m : ℕ) → has (slice_index_or mid.marks c []) m
       ≡ (if c == deed.channel then (has (slice_index_or old.marks c []) m || has deed.raises m) && not (has deed.lowers m) else has (slice_index_or old.marks c []) m)
@@ -115,7 +115,7 @@ pub record IsStepOf (old new : LastBoard) (deed : Deed) : Type 0 where
   pub holds : (c : ℕ) → 1 ≤ c → c < CHANNEL_PLACES → slice_index_or new.holds c None ≡ (if is_given (slice_index_or deed.goes c None) then None else slice_index_or mid.holds c None)
   pub axes : (x : ℕ) → x < AXIS_LIMIT → slice_index_or new.owners x None ≡ taker_upto deed.goes CHANNEL_LIMIT x (slice_index_or mid.owners x None)
 
-module _ (old new : LastBoard) (deed : Deed) (s : IsStepOf old new deed) (b : Board) (c : ℕ) (step : Step) (told : IsTold old b) (running : is_running (b.state c) ≡ true) (read : IsRead deed (happening_of b c step)) where
+module _ (old new : LastBoard) (deed : StepEvents) (s : IsStepOf old new deed) (b : Board) (c : ℕ) (step : Step) (told : IsTold old b) (running : is_running (b.state c) ≡ true) (read : IsRead deed (happening_of b c step)) where
   mid_marks : (d m : ℕ) → 1 ≤ d → d < CHANNEL_PLACES → has (slice_index_or s.mid.marks d []) m ≡ (after_own_part b c step).marks d m
   mid_marks d m from below = s.own_marks d m ∙ rw read.channel (elim (cases_Bool (d == c)) [
     | inl same ↦

@@ -16,11 +16,11 @@ ghost use Rattle.sync_types.specs.declared.Step.{Step};
 use crate::owners::{Owners, first_owners, give};
 use axis_sets::{AxisId, CHANNEL_LIMIT, CHANNEL_PLACES, ChannelId, MarkSet};
 use order_clocks::StepReader;
-use step_deeds::{Deed, Departure, HoldAtLine, marks_left};
+use step_deeds::{StepEvents, WaitAt, Wakeup, marks_left};
 use sync_types::{ChannelEnd, Entry, Run, StartState};
 
 /// How a channel goes on; none where it does not.
-fn departure_at(goes: &[Option<Departure>; CHANNEL_PLACES], number: u8) -> Option<Departure>
+fn departure_at(goes: &[Option<Wakeup>; CHANNEL_PLACES], number: u8) -> Option<Wakeup>
     requires { number < CHANNEL_PLACES }
     ensures { result ≡ slice_index_or goes.now number None }
 {
@@ -31,7 +31,7 @@ fn departure_at(goes: &[Option<Departure>; CHANNEL_PLACES], number: u8) -> Optio
 #[derive(Clone, Copy)]
 pub struct LastBoard {
     marks: [MarkSet; CHANNEL_PLACES],
-    holds: [Option<HoldAtLine>; CHANNEL_PLACES],
+    holds: [Option<WaitAt>; CHANNEL_PLACES],
     owners: Owners,
 }
 
@@ -44,7 +44,7 @@ impl LastBoard {
     }
 
     /// For what a channel waits, and at which line; none where it does not wait.
-    pub fn hold_of(&self, channel: ChannelId) -> Option<HoldAtLine>
+    pub fn hold_of(&self, channel: ChannelId) -> Option<WaitAt>
         ensures { (b : Board) → IsTold self.now b → wait_shown result ≡ wait_in (b.state channel) }
     {
         self.holds[usize::from(channel.number)]
@@ -71,7 +71,7 @@ impl LastBoard {
     }
 
     /// What a channel does in a step by itself.
-    fn act(&mut self, deed: &Deed)
+    fn act(&mut self, deed: &StepEvents)
         ensures marks { (c m : ℕ) → has (slice_index_or self.new.marks c []) m
             ≡ (if c == deed.now.channel then (has (slice_index_or self.old.marks c []) m || has deed.now.raises m)
             && not (has deed.now.lowers m) else has (slice_index_or self.old.marks c []) m) }
@@ -86,7 +86,7 @@ impl LastBoard {
         match &deed.begins {
             None => {}
             Some(hold) => {
-                self.holds[c] = Some(HoldAtLine {
+                self.holds[c] = Some(WaitAt {
                     hold: *hold,
                     line: deed.line,
                 })
@@ -96,7 +96,7 @@ impl LastBoard {
     }
 
     /// A channel goes on: its wait is over, and it has what it took.
-    fn let_go(&mut self, channel: ChannelId, gone: &Departure)
+    fn let_go(&mut self, channel: ChannelId, gone: &Wakeup)
         ensures marks { (d m : ℕ) → has (slice_index_or self.new.marks d []) m
             ≡ (if d == channel then has (slice_index_or self.old.marks d []) m
             && not (lowers_at (slice_index_or self.old.holds d None) m)
@@ -114,7 +114,7 @@ impl LastBoard {
     }
 
     /// A channel goes on, where it does.
-    fn let_go_if(&mut self, channel: ChannelId, gone: &Option<Departure>)
+    fn let_go_if(&mut self, channel: ChannelId, gone: &Option<Wakeup>)
         ensures marks { (d m : ℕ) → has (slice_index_or self.new.marks d []) m
             ≡ (has (slice_index_or self.old.marks d []) m
             && not (((d == channel) && is_given gone.now) && lowers_at (slice_index_or self.old.holds d None) m)) }
@@ -129,7 +129,7 @@ impl LastBoard {
     }
 
     /// All that go on.
-    fn depart(&mut self, goes: &[Option<Departure>; CHANNEL_PLACES])
+    fn depart(&mut self, goes: &[Option<Wakeup>; CHANNEL_PLACES])
         ensures marks { (c m : ℕ) → 1 ≤ c → c < CHANNEL_PLACES → has (slice_index_or self.new.marks c []) m
             ≡ (has (slice_index_or self.old.marks c []) m
             && not (is_given (slice_index_or goes.now c None) && lowers_at (slice_index_or self.old.holds c None) m)) }
@@ -146,7 +146,7 @@ impl LastBoard {
     }
 
     /// A step.
-    fn tell(&mut self, deed: &Deed)
+    fn tell(&mut self, deed: &StepEvents)
         ensures { (b : Board) (c : ℕ) (step : Step) → IsTold self.old b → is_running (b.state c) ≡ true
             → IsRead deed.now (happening_of b c step) → IsTold self.new (after_step b c step) }
     {

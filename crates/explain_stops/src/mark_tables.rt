@@ -13,12 +13,12 @@ use axis_sets::ChannelId;
 use explain_ends::LastBoard;
 use explain_places::{Told, say_channel, say_line};
 use growing_text::Text;
-use step_deeds::{Hold, HoldAtLine};
+use step_deeds::{Hold, WaitAt};
 
 // ---- which marks and channels
 
 /// Whether a wait is for marks of this number.
-fn is_for(held: &Option<HoldAtLine>, mark: u8) -> bool
+fn is_for(held: &Option<WaitAt>, mark: u8) -> bool
     ensures { result ≡ model.is_for mark (wait_shown held.now) }
 {
     match held {

@@ -15,7 +15,7 @@ use axis_sets::ChannelId;
 use explain_ends::{LastBoard, last_board};
 use explain_places::{Told, say_block, say_channel, say_channel_first};
 use growing_text::Text;
-use step_deeds::HoldAtLine;
+use step_deeds::WaitAt;
 use sync_types::StartState;
 
 /// Says where a channel waits.
@@ -30,7 +30,7 @@ fn say_head(text: &mut Text, told: &Told, channel: ChannelId, line: u32)
 }
 
 /// Says that a channel waits, and for what.
-fn say_held(text: &mut Text, told: &Told, board: &LastBoard, channel: ChannelId, held: &HoldAtLine)
+fn say_held(text: &mut Text, told: &Told, board: &LastBoard, channel: ChannelId, held: &WaitAt)
     ensures { (b : Board) → IsTold board.now b
         → text.new ≡ text.old ++ (head_text told.now.lines.now told.now.job.now channel held.now.line
         ++ hold_text told.now.lines.now told.now.job.now told.now.run.now b channel (hold_shown held.now.hold)) }
@@ -45,7 +45,7 @@ fn say_wait(
     told: &Told,
     board: &LastBoard,
     channel: ChannelId,
-    held: &Option<HoldAtLine>,
+    held: &Option<WaitAt>,
 )
     ensures { (b : Board) → IsTold board.now b
         → text.new ≡ text.old ++ wait_text told.now.lines.now told.now.job.now told.now.run.now b

@@ -13,9 +13,9 @@ use Rattle.counter_rows.specs.Rows.{count_of}
 use Rattle.counter_rows.specs.Tables.{TableView, act_in, go_in, row_at as table_row}
 use Rattle.order_clocks.specs.Steps.{gives_of, keys_of, row_at, Shows, HasRoom, AreRows, AreSteps, deed_at}
 use Rattle.order_clocks.specs.Tells.{Tells}
-use Rattle.counter_rows.specs.declared.table.StepRows.{StepRows}
-use Rattle.step_deeds.specs.declared.deed.Deed.{Deed}
-use Rattle.order_clocks.specs.declared.times.Times.{Times}
+use Rattle.counter_rows.specs.declared.table.StepClocks.{StepClocks}
+use Rattle.step_deeds.specs.declared.deed.StepEvents.{StepEvents}
+use Rattle.order_clocks.specs.declared.times.LastClocks.{LastClocks}
 use Rattle.order_clocks.proofs.BoundLaws.{seen_below}
 use Rattle.order_clocks.proofs.GoRowLaws.{listed, unlisted}
 use Rattle.step_deeds.proofs.HoldLaws.{past_gone}
@@ -28,7 +28,7 @@ zero_row n c x row none = elim (cases_lt c n) [
   | inr past ↦ ap (λ (r : List ℕ). count_of r x) (get_or_past (replicate n row) c [] (let e = length-replicate n row in omega arith))
 ]
 
-pub zero_at : (t : Times) (row : List ℕ) → ((y : ℕ) → count_of row y ≡ 0)
+pub zero_at : (t : LastClocks) (row : List ℕ) → ((y : ℕ) → count_of row y ≡ 0)
     → ((m c x : ℕ) → count_of (slice_index_or (slice_index_or t.raised m []) c []) x ≡ 0) → t.freed ≡ replicate AXIS_LIMIT row → t.started ≡ replicate CHANNEL_PLACES row → t.ended ≡ replicate CHANNEL_PLACES row
     → (k : Key) (x : ℕ) → count_of (row_at t k) x ≡ 0
 zero_at t row none raised freed started ended (Raised c m) x = raised m c x
@@ -37,7 +37,7 @@ zero_at t row none raised freed started ended (Started c) x = ap (λ (r : List (
 zero_at t row none raised freed started ended (Ended c) x = ap (λ (r : List (List ℕ)). count_of (slice_index_or r c []) x) ended ∙ zero_row CHANNEL_PLACES c x row none
 
 -- the run of the deeds themselves
-pub run_of : List Deed → Course
+pub run_of : List StepEvents → Course
 run_of deeds = record {
   actor = λ i. (deed_at deeds i).channel;
   gives = λ i k. gives_of (deed_at deeds i) k;
@@ -46,13 +46,13 @@ run_of deeds = record {
   group = λ i c. slice_index (deed_at deeds i).group c;
 }
 
-goers_are : (deed : Deed) (c : ℕ) → among (filter (goes_in deed) (range_with_len 0 (length deed.goes))) c ≡ goes_in deed c
+goers_are : (deed : StepEvents) (c : ℕ) → among (filter (goes_in deed) (range_with_len 0 (length deed.goes))) c ≡ goes_in deed c
 goers_are deed c = elim (cases_lt c (length deed.goes)) [
   | inl below ↦ listed (goes_in deed) 0 (length deed.goes) c (omega arith) (omega arith)
   | inr past ↦ unlisted (goes_in deed) 0 (length deed.goes) c (inr (omega arith)) ∙ sym (past_gone deed.goes c past)
 ]
 
-pub run_of_is : (deeds : List Deed) → AreSteps (run_of deeds) deeds
+pub run_of_is : (deeds : List StepEvents) → AreSteps (run_of deeds) deeds
 unfolding run_of
 run_of_is deeds = record {
   step = λ i within. record {
@@ -64,14 +64,14 @@ run_of_is deeds = record {
   };
 }
 
-pub shows_room : (run : Course) (i : ℕ) (t : Times) → i < 2 ^ 32 → Shows t (last_rows run i) → HasRoom t 2
+pub shows_room : (run : Course) (i : ℕ) (t : LastClocks) → i < 2 ^ 32 → Shows t (last_rows run i) → HasRoom t 2
 shows_room run i t few shows = record {
   past = λ c x. let e = shows.past c x in let b = (seen_below run i).past c x in omega arith;
   last = λ k x. let e = shows.last k x in let b = (seen_below run i).last k x in omega arith;
 }
 
 -- one step more
-pub tells_more : (run : Course) (old new : TableView) (rows : StepRows) (goes : List Bool) → Tells run old → AreRows run (length old.steps) rows → length new.steps ≡ length old.steps + 1
+pub tells_more : (run : Course) (old new : TableView) (rows : StepClocks) (goes : List Bool) → Tells run old → AreRows run (length old.steps) rows → length new.steps ≡ length old.steps + 1
     → ((i c : ℕ) → i < length old.steps → (act_in new i ≡ act_in old i) × (go_in new i c ≡ go_in old i c))
     → act_in new (length old.steps) ≡ rows.act
     → ((c : ℕ) → has goes c ≡ true → go_in new (length old.steps) c ≡ slice_index_or rows.goes c [])

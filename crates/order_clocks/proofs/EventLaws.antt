@@ -6,10 +6,10 @@ use Rattle.order_clocks.specs.Chains.{IsIn}
 use Rattle.order_clocks.specs.TracedRaces.{Trace, Lowered, Needed, Took, Touched}
 use Rattle.order_clocks.specs.LastPlaces.{hold_minds, deed_leaves, deed_minds, minds_in, minds_at_line}
 use Rattle.order_clocks.specs.Pairs.{minded_by, left_by, IsActEvent}
-use Rattle.step_deeds.specs.declared.deed.Deed.{Deed}
+use Rattle.step_deeds.specs.declared.deed.StepEvents.{StepEvents}
 use Rattle.step_deeds.specs.declared.deed.Hold.{Hold}
 use Rattle.step_deeds.specs.declared.deed.Hold.TheVariants.{Marks, Ends, Axes}
-use Rattle.step_deeds.specs.declared.deed.HoldAtLine.{HoldAtLine}
+use Rattle.step_deeds.specs.declared.deed.WaitAt.{WaitAt}
 use Rattle.order_clocks.specs.declared.events.Event.{Event}
 use Rattle.step_deeds.specs.declared.named.NamedMarks.{NamedMarks}
 use Rattle.order_clocks.proofs.MemberLaws.{in_append, in_map, in_members, map_in, members_in}
@@ -60,7 +60,7 @@ hold_minded hold e (Took x) waits asks on = asks x ∙ on
 hold_minded hold e (Touched c) waits asks on = absurd (false≢true on)
 
 -- an Act
-pub act_minded : (deed : Deed) (e : Event) → e.channel ≡ deed.channel → e.lowers ≡ deed.lowers → e.touches ≡ deed.touches → e.waits ≡ marks_begun deed.begins
+pub act_minded : (deed : StepEvents) (e : Event) → e.channel ≡ deed.channel → e.lowers ≡ deed.lowers → e.touches ≡ deed.touches → e.waits ≡ marks_begun deed.begins
     → ((x : ℕ) → has e.asks x ≡ asks_begun deed.begins x) → (t : Trace) → (minded_by e t ≡ true) ↔ IsIn t (deed_minds deed)
 act_minded deed e channel lowers touches waits asks t = (to t, from t)
   where
@@ -96,11 +96,11 @@ act_minded deed e channel lowers touches waits asks t = (to t, from t)
     ]
 
 -- a Go
-pub go_minded : (c : ℕ) (held : Option HoldAtLine) (e : Event) → e.channel ≡ c → ((m : ℕ) → has e.lowers m ≡ lowers_at held m) → e.waits ≡ None → IsEmpty e.asks → IsEmpty e.touches
+pub go_minded : (c : ℕ) (held : Option WaitAt) (e : Event) → e.channel ≡ c → ((m : ℕ) → has e.lowers m ≡ lowers_at held m) → e.waits ≡ None → IsEmpty e.asks → IsEmpty e.touches
     → (t : Trace) → (minded_by e t ≡ true) ↔ IsIn t (minds_at_line c held)
 go_minded c held e channel lowers waits asks touches t = (to t, from held lowers t)
   where
-    minded : (held : Option HoldAtLine) (m : ℕ) → lowers_at held m ≡ true → IsIn (Needed c m) (minds_at_line c held)
+    minded : (held : Option WaitAt) (m : ℕ) → lowers_at held m ≡ true → IsIn (Needed c m) (minds_at_line c held)
     minded (Some held) m on = by_hold held.hold on
       where
         by_hold : (hold : Hold) → lowers_in hold m ≡ true → IsIn (Needed c m) (minds_in c hold)
@@ -118,7 +118,7 @@ go_minded c held e channel lowers waits asks touches t = (to t, from held lowers
     to (Took x) on = absurd (false≢true (sym (asks x) ∙ on))
     to (Touched d) on = absurd (false≢true (sym (touches d) ∙ on))
 
-    from : (held : Option HoldAtLine) → ((m : ℕ) → has e.lowers m ≡ lowers_at held m) → (t : Trace) → IsIn t (minds_at_line c held) → minded_by e t ≡ true
+    from : (held : Option WaitAt) → ((m : ℕ) → has e.lowers m ≡ lowers_at held m) → (t : Trace) → IsIn t (minds_at_line c held) → minded_by e t ≡ true
     from None same t within = absurd within
     from (Some held) same t within = by_hold held.hold same within
       where
@@ -130,7 +130,7 @@ go_minded c held e channel lowers waits asks touches t = (to t, from held lowers
         by_hold (Ends named) low there = absurd there
         by_hold (Axes axes) low there = absurd there
 
-pub act_is : (deed : Deed) (row : List ℕ) (e : Event) → e.channel ≡ deed.channel → e.line ≡ deed.line → e.row ≡ row → e.lowers ≡ deed.lowers → e.needs ≡ None → e.touches ≡ deed.touches
+pub act_is : (deed : StepEvents) (row : List ℕ) (e : Event) → e.channel ≡ deed.channel → e.line ≡ deed.line → e.row ≡ row → e.lowers ≡ deed.lowers → e.needs ≡ None → e.touches ≡ deed.touches
     → IsEmpty e.took → e.waits ≡ marks_begun deed.begins → ((x : ℕ) → has e.asks x ≡ asks_begun deed.begins x) → IsActEvent deed row e
 act_is deed row e channel line row_is lowers needs touches took waits asks = record {
   channel = channel;

@@ -7,7 +7,7 @@ use Rattle.order_clocks.specs.Pairs.{IsLeastOf, IsLeastWith, IsUnordered, IsMet,
 use Rattle.order_clocks.specs.RaceOrder.{IsUpTo, numbers_of, letter_a, letter_b, letter_c, letter_d, letter_e, letter_f, letter_g}
 use Rattle.order_clocks.specs.TracedRaces.{Trace, Lowered, Needed, Took, Touched, shown}
 use Rattle.order_clocks.specs.declared.events.Event.{Event}
-use Rattle.order_clocks.specs.declared.pairs.Meeting.{Meeting}
+use Rattle.order_clocks.specs.declared.pairs.RaceTiming.{RaceTiming}
 use Rattle.order_clocks.proofs.LeastLaws.{up_to_itself, up_to_on}
 use Rattle.sync_types.specs.declared.runs.Race.{Race}
 
@@ -94,10 +94,10 @@ pair_least e l old a b x new ta tb tx tg ra rb rx rg apart ma mb mx mg ea eb ex 
     join q (inr s) = let w = mg.0 s.0 in record { apart = apart; trace = Touched w.0; met = w.1; is = s.1 ∙ eg }
 
 -- an event with the events of a step
-pub over_start : (meeting : Meeting) (events : List (Option Event)) (l : Event) (old : Option Race) → IsLeastWith (IsRaceOver meeting events 0 l) old old
+pub over_start : (meeting : RaceTiming) (events : List (Option Event)) (l : Event) (old : Option Race) → IsLeastWith (IsRaceOver meeting events 0 l) old old
 over_start meeting events l old = least_none (IsRaceOver meeting events 0 l) old (λ q r. let w = r.within in absurd (omega arith))
 
-pub over_skip : (meeting : Meeting) (events : List (Option Event)) (k : ℕ) (l : Event) (old new : Option Race) → slice_index_or events k None ≡ None → IsLeastWith (IsRaceOver meeting events k l) old new → IsLeastWith (IsRaceOver meeting events (k + 1) l) old new
+pub over_skip : (meeting : RaceTiming) (events : List (Option Event)) (k : ℕ) (l : Event) (old new : Option Race) → slice_index_or events k None ≡ None → IsLeastWith (IsRaceOver meeting events k l) old new → IsLeastWith (IsRaceOver meeting events (k + 1) l) old new
 over_skip meeting events k l old new none known = least_same (IsRaceOver meeting events k l) (IsRaceOver meeting events (k + 1) l) old new (λ q. (
   (λ r. let w = r.within in record { place = r.place; within = omega arith; early = r.early; there = r.there; race_of = r.race_of }),
   (λ r. elim (cases_lt r.place k) [
@@ -111,7 +111,7 @@ over_skip meeting events k l old new none known = least_same (IsRaceOver meeting
   ]),
 )) known
 
-pub over_step : (meeting : Meeting) (events : List (Option Event)) (k : ℕ) (l early : Event) (old mid new : Option Race) → slice_index_or events k None ≡ Some early
+pub over_step : (meeting : RaceTiming) (events : List (Option Event)) (k : ℕ) (l early : Event) (old mid new : Option Race) → slice_index_or events k None ≡ Some early
     → IsLeastWith (IsRaceOver meeting events k l) old mid → IsLeastWith (IsPairRace meeting early l) mid new → IsLeastWith (IsRaceOver meeting events (k + 1) l) old new
 over_step meeting events k l early old mid new here first second = least_both (IsRaceOver meeting events k l) (IsPairRace meeting early l) (IsRaceOver meeting events (k + 1) l) old mid new
     (λ q r. elim (cases_lt r.place k) [
@@ -131,10 +131,10 @@ over_step meeting events k l early old mid new here first second = least_both (I
     first second
 
 -- the events of a step with those of another
-pub between_start : (meeting : Meeting) (earlies events : List (Option Event)) (old : Option Race) → IsLeastWith (IsRaceBetween meeting earlies events 0) old old
+pub between_start : (meeting : RaceTiming) (earlies events : List (Option Event)) (old : Option Race) → IsLeastWith (IsRaceBetween meeting earlies events 0) old old
 between_start meeting earlies events old = least_none (IsRaceBetween meeting earlies events 0) old (λ q r. let w = r.within in absurd (omega arith))
 
-pub between_skip : (meeting : Meeting) (earlies events : List (Option Event)) (k : ℕ) (old new : Option Race) → slice_index_or events k None ≡ None → IsLeastWith (IsRaceBetween meeting earlies events k) old new → IsLeastWith (IsRaceBetween meeting earlies events (k + 1)) old new
+pub between_skip : (meeting : RaceTiming) (earlies events : List (Option Event)) (k : ℕ) (old new : Option Race) → slice_index_or events k None ≡ None → IsLeastWith (IsRaceBetween meeting earlies events k) old new → IsLeastWith (IsRaceBetween meeting earlies events (k + 1)) old new
 between_skip meeting earlies events k old new none known = least_same (IsRaceBetween meeting earlies events k) (IsRaceBetween meeting earlies events (k + 1)) old new (λ q. (
   (λ r. let w = r.within in record { place = r.place; within = omega arith; late = r.late; there = r.there; race_of = r.race_of }),
   (λ r. elim (cases_lt r.place k) [
@@ -148,7 +148,7 @@ between_skip meeting earlies events k old new none known = least_same (IsRaceBet
   ]),
 )) known
 
-pub between_step : (meeting : Meeting) (earlies events : List (Option Event)) (k : ℕ) (late : Event) (old mid new : Option Race) → slice_index_or events k None ≡ Some late
+pub between_step : (meeting : RaceTiming) (earlies events : List (Option Event)) (k : ℕ) (late : Event) (old mid new : Option Race) → slice_index_or events k None ≡ Some late
     → IsLeastWith (IsRaceBetween meeting earlies events k) old mid → IsLeastWith (IsRaceOver meeting earlies EVENT_PLACES late) mid new → IsLeastWith (IsRaceBetween meeting earlies events (k + 1)) old new
 between_step meeting earlies events k late old mid new here first second = least_both (IsRaceBetween meeting earlies events k) (IsRaceOver meeting earlies EVENT_PLACES late) (IsRaceBetween meeting earlies events (k + 1)) old mid new
     (λ q r. elim (cases_lt r.place k) [

@@ -10,10 +10,10 @@ use Rattle.order_clocks.specs.Groups.{labels}
 use Rattle.order_clocks.specs.Partners.{PairsAllPartners, AreAllLinked}
 use Rattle.order_clocks.specs.Watching.{BeginIsSound, WaitIsSound, begun_at, IsGoingOf, wait_in, wait_shown}
 use Rattle.order_clocks.specs.Happenings.{going_of}
-use Rattle.step_deeds.specs.declared.deed.Departure.{Departure}
+use Rattle.step_deeds.specs.declared.deed.Wakeup.{Wakeup}
 use Rattle.step_deeds.specs.declared.deed.Hold as code
 use Rattle.step_deeds.specs.declared.deed.Hold.TheVariants.{Marks, Ends, Axes}
-use Rattle.step_deeds.specs.declared.deed.HoldAtLine.{HoldAtLine}
+use Rattle.step_deeds.specs.declared.deed.WaitAt.{WaitAt}
 use Rattle.order_clocks.proofs.GroupLaws.{chained_from, chained_to}
 use Rattle.order_clocks.proofs.TellLaws.{going_some, going_within}
 use Rattle.sync_types.proofs.BoardTests.{no_truth}
@@ -54,7 +54,7 @@ names_by_wait g h = by_states g.from h.from
     by_states (IsHolding (AtAxes one) k) t = refl
     by_states other t = refl
 
-kept_names : (one two : Option HoldAtLine) (a b : ℕ) → are_named (marks_in one) (marks_in two) a b ≡ name_both (wait_shown one) (wait_shown two) a b
+kept_names : (one two : Option WaitAt) (a b : ℕ) → are_named (marks_in one) (marks_in two) a b ≡ name_both (wait_shown one) (wait_shown two) a b
 kept_names (Some one) (Some two) a b = by_holds one.hold two.hold
   where
     by_holds : (h k : code.Hold) → are_named (marks_in (Some (record { hold = h; line = one.line }))) (marks_in (Some (record { hold = k; line = two.line }))) a b
@@ -159,17 +159,17 @@ among_in (k ∷ ks) g (inr later) = or_true (k.channel == g.channel) (among (cha
     or_true false q on = on
 
 -- all go from their waits on a board, and the code has them so
-pub record AreRead (goes : List (Option Departure)) (gs : List Going) (b : Board) : Type 0 where
+pub record AreRead (goes : List (Option Wakeup)) (gs : List Going) (b : Board) : Type 0 where
   pub from : (g : Going) → IsIn g gs → wait_in g.from ≡ wait_in (b.state g.channel)
   pub read : (c : ℕ) → IsGoingOf (slice_index_or goes c None) (going_of gs c)
   pub size : length goes ≡ CHANNEL_PLACES
   pub none : slice_index_or goes 0 None ≡ None
 
-partners_to : (goes : List (Option Departure)) (gs : List Going) (b : Board) (c d : ℕ) → AreRead goes gs b → are_partners goes c d ≡ true
+partners_to : (goes : List (Option Wakeup)) (gs : List Going) (b : Board) (c d : ℕ) → AreRead goes gs b → are_partners goes c d ≡ true
     → ((among (channels_in gs) c ≡ true) × (among (channels_in gs) d ≡ true)) × (name_both (wait_in (b.state c)) (wait_in (b.state d)) c d ≡ true)
 partners_to goes gs b c d are on = by_cases (slice_index_or goes c None) (slice_index_or goes d None) (going_of gs c) (going_of gs d) refl refl (are.read c) (are.read d) on
   where
-    by_cases : (x y : Option Departure) (v w : Option Going) → going_of gs c ≡ v → going_of gs d ≡ w → IsGoingOf x v → IsGoingOf y w → are_named (named_marks x) (named_marks y) c d ≡ true
+    by_cases : (x y : Option Wakeup) (v w : Option Going) → going_of gs c ≡ v → going_of gs d ≡ w → IsGoingOf x v → IsGoingOf y w → are_named (named_marks x) (named_marks y) c d ≡ true
         → ((among (channels_in gs) c ≡ true) × (among (channels_in gs) d ≡ true)) × (name_both (wait_in (b.state c)) (wait_in (b.state d)) c d ≡ true)
     by_cases (Some x) (Some y) (Some g) (Some h) e f one two named =
         let g_in = going_within gs c g e in
@@ -187,11 +187,11 @@ partners_to goes gs b c d are on = by_cases (slice_index_or goes c None) (slice_
     by_cases (Some x) None None w e f one two named = absurd one
     by_cases None y v w e f one two named = no_truth false named refl
 
-partners_from : (goes : List (Option Departure)) (gs : List Going) (b : Board) (c d : ℕ) → AreRead goes gs b → among (channels_in gs) c ≡ true → among (channels_in gs) d ≡ true
+partners_from : (goes : List (Option Wakeup)) (gs : List Going) (b : Board) (c d : ℕ) → AreRead goes gs b → among (channels_in gs) c ≡ true → among (channels_in gs) d ≡ true
     → name_both (wait_in (b.state c)) (wait_in (b.state d)) c d ≡ true → are_partners goes c d ≡ true
 partners_from goes gs b c d are c_in d_in on = by_cases (slice_index_or goes c None) (slice_index_or goes d None) (going_of gs c) (going_of gs d) refl refl (are.read c) (are.read d)
   where
-    by_cases : (x y : Option Departure) (v w : Option Going) → going_of gs c ≡ v → going_of gs d ≡ w → IsGoingOf x v → IsGoingOf y w → are_named (named_marks x) (named_marks y) c d ≡ true
+    by_cases : (x y : Option Wakeup) (v w : Option Going) → going_of gs c ≡ v → going_of gs d ≡ w → IsGoingOf x v → IsGoingOf y w → are_named (named_marks x) (named_marks y) c d ≡ true
     by_cases (Some x) (Some y) (Some g) (Some h) e f one two =
         let g_in = going_within gs c g e in
         let h_in = going_within gs d h f in
@@ -205,7 +205,7 @@ partners_from goes gs b c d are c_in d_in on = by_cases (slice_index_or goes c N
     by_cases None y (Some g) w e f one two = absurd one
     by_cases None y None w e f one two = no_truth false (sym (ap is_some e) ∙ (going_some gs c ∙ c_in)) refl
 
-pub pairs_all : (goes : List (Option Departure)) (gs : List Going) (b : Board) → AreRead goes gs b → PairsAllPartners (pairs_of gs) goes
+pub pairs_all : (goes : List (Option Wakeup)) (gs : List Going) (b : Board) → AreRead goes gs b → PairsAllPartners (pairs_of gs) goes
 pairs_all goes gs b are c d on =
     let w = partners_to goes gs b c d are on in
     by_found (going_of gs c) (going_of gs d) refl refl w
@@ -219,7 +219,7 @@ pairs_all goes gs b are c d on =
     by_found None u e f w = no_truth false (sym (ap is_some e) ∙ (going_some gs c ∙ w.0.0)) refl
 
 -- pairs have one number
-pub paired_partners : (goes : List (Option Departure)) (gs : List Going) (b : Board) (c d : ℕ) → AreRead goes gs b → ArePaired (pairs_of gs) c d → are_partners goes c d ≡ true
+pub paired_partners : (goes : List (Option Wakeup)) (gs : List Going) (b : Board) (c d : ℕ) → AreRead goes gs b → ArePaired (pairs_of gs) c d → are_partners goes c d ≡ true
 paired_partners goes gs b c d are pair = by_ends w.ends
   where
     w : IsOf gs gs c d
@@ -233,10 +233,10 @@ paired_partners goes gs b c d are pair = by_ends w.ends
     by_ends (inr e) = partners_from goes gs b c d are (rw e.1 at (among_in gs w.h w.h_there)) (rw e.0 at (among_in gs w.g w.g_there))
         (name_both_back (wait_in (b.state d)) (wait_in (b.state c)) d c (rw (e.0, e.1) at both))
 
-partner_below : (goes : List (Option Departure)) (gs : List Going) (b : Board) (c : ℕ) → AreRead goes gs b → among (channels_in gs) c ≡ true → (1 ≤ c) × (c < CHANNEL_PLACES)
+partner_below : (goes : List (Option Wakeup)) (gs : List Going) (b : Board) (c : ℕ) → AreRead goes gs b → among (channels_in gs) c ≡ true → (1 ≤ c) × (c < CHANNEL_PLACES)
 partner_below goes gs b zero are on = by_read (slice_index_or goes 0 None) (going_of gs 0) refl are.none (are.read 0)
   where
-    by_read : (x : Option Departure) (v : Option Going) → going_of gs 0 ≡ v → x ≡ None → IsGoingOf x v → (1 ≤ 0) × (0 < CHANNEL_PLACES)
+    by_read : (x : Option Wakeup) (v : Option Going) → going_of gs 0 ≡ v → x ≡ None → IsGoingOf x v → (1 ≤ 0) × (0 < CHANNEL_PLACES)
     by_read (Some x) v e none is = no_truth false (sym (ap is_some none)) refl
     by_read None (Some g) e none is = absurd is
     by_read None None e none is = no_truth false (sym (ap is_some e) ∙ (going_some gs 0 ∙ on)) refl
@@ -248,12 +248,12 @@ partner_below goes gs b (suc c) are on = (
   ],
 )
   where
-    by_read : (x : Option Departure) (v : Option Going) → going_of gs (suc c) ≡ v → x ≡ None → IsGoingOf x v → suc c < CHANNEL_PLACES
+    by_read : (x : Option Wakeup) (v : Option Going) → going_of gs (suc c) ≡ v → x ≡ None → IsGoingOf x v → suc c < CHANNEL_PLACES
     by_read (Some x) v e none is = no_truth false (sym (ap is_some none)) refl
     by_read None (Some g) e none is = absurd is
     by_read None None e none is = no_truth false (sym (ap is_some e) ∙ (going_some gs (suc c) ∙ on)) refl
 
-pair_joins : (goes : List (Option Departure)) (gs : List Going) (b : Board) (group : List ℕ) → AreRead goes gs b
+pair_joins : (goes : List (Option Wakeup)) (gs : List Going) (b : Board) (group : List ℕ) → AreRead goes gs b
     → ((c d : ℕ) → 1 ≤ c → c < CHANNEL_PLACES → 1 ≤ d → d < CHANNEL_PLACES → are_partners goes c d ≡ true → slice_index group c ≡ slice_index group d)
     → (c d : ℕ) → ArePaired (pairs_of gs) c d → slice_index group c ≡ slice_index group d
 pair_joins goes gs b group are joined c d pair =
@@ -274,7 +274,7 @@ same_tests p q r s to from = elim (cases_Bool (p == q)) [
   | inr off ↦ off ∙ sym (elim (cases_Bool (r == s)) [ inl on ↦ no_truth (p == q) (eq-eqb p q (from (eqb-true r s on))) off | inr same ↦ same ])
 ]
 
-pub groups_are : (goes : List (Option Departure)) (gs : List Going) (b : Board) (group : List ℕ) → AreRead goes gs b
+pub groups_are : (goes : List (Option Wakeup)) (gs : List Going) (b : Board) (group : List ℕ) → AreRead goes gs b
     → ((c d : ℕ) → 1 ≤ c → c < CHANNEL_PLACES → 1 ≤ d → d < CHANNEL_PLACES → are_partners goes c d ≡ true → slice_index group c ≡ slice_index group d)
     → AreAllLinked (pairs_of gs) group
     → (c d : ℕ) → c < CHANNEL_PLACES → d < CHANNEL_PLACES → (labels (pairs_of gs) d == labels (pairs_of gs) c) ≡ (slice_index group d == slice_index group c)
@@ -286,13 +286,13 @@ groups_are goes gs b group are joined linked c d c_below d_below = same_tests (l
     to (inl same) = ap (slice_index group) same
     to (inr path) = chain_joins (pairs_of gs) group (pair_joins goes gs b group are joined) path.0 d c path.1
 
-pub given_below : (goes : List (Option Departure)) (c : ℕ) → length goes ≡ CHANNEL_PLACES → is_given (slice_index_or goes c None) ≡ true → c < CHANNEL_PLACES
+pub given_below : (goes : List (Option Wakeup)) (c : ℕ) → length goes ≡ CHANNEL_PLACES → is_given (slice_index_or goes c None) ≡ true → c < CHANNEL_PLACES
 given_below goes c size on = elim (cases_lt c CHANNEL_PLACES) [
   | inl below ↦ below
   | inr past ↦ no_truth false (sym (ap is_given (get_or-eq_default goes None (rw size past))) ∙ on) refl
 ]
 
-pub sound_begun : (t : Bool) (begins : Option code.Hold) (line : ℕ) (old : Option HoldAtLine) → WaitIsSound old → BeginIsSound begins → WaitIsSound (if t then begun_at begins line old else old)
+pub sound_begun : (t : Bool) (begins : Option code.Hold) (line : ℕ) (old : Option WaitAt) → WaitIsSound old → BeginIsSound begins → WaitIsSound (if t then begun_at begins line old else old)
 sound_begun true (Some hold) line old one two = two
 sound_begun true None line old one two = one
 sound_begun false begins line old one two = one

@@ -4,7 +4,7 @@ use Rattle.std.proofs.Common.{◌≡◌, ℕ, suc, ◌<◌, ◌⊎◌, ◌==◌,
 use Rattle.std.proofs.lemmas.Bool.{cases_Bool, eqb-true, eq-eqb, and_parts, true≢false}
 use Rattle.axis_sets.specs.Sets.{members_of}
 use Rattle.counter_rows.specs.Rows.{count_of, top, IsMissed}
-use Rattle.counter_rows.specs.declared.table.StepRows.{StepRows}
+use Rattle.counter_rows.specs.declared.table.StepClocks.{StepClocks}
 use Rattle.counter_rows.proofs.GatherLaws.{max_assoc}
 use Rattle.order_clocks.specs.Chains.{IsIn}
 use Rattle.order_clocks.specs.Counters.{row}
@@ -13,11 +13,11 @@ use Rattle.order_clocks.specs.TracedRaces.{Trace, Lowered, Needed, Took, Touched
 use Rattle.order_clocks.specs.LastPlaces.{deed_leaves, leaves_of, hold_minds, deed_minds, departure_minds, IsTracked, spot_at, AreLast}
 use Rattle.order_clocks.specs.Steps.{act_name, go_name, IsStep, AreRows}
 use Rattle.order_clocks.specs.Tracks.{Tracks, IsRacyAt, after_act, last_place}
-use Rattle.step_deeds.specs.declared.deed.Deed.{Deed}
-use Rattle.step_deeds.specs.declared.deed.Departure.{Departure}
+use Rattle.step_deeds.specs.declared.deed.StepEvents.{StepEvents}
+use Rattle.step_deeds.specs.declared.deed.Wakeup.{Wakeup}
 use Rattle.step_deeds.specs.declared.deed.Hold.{Hold}
 use Rattle.step_deeds.specs.declared.deed.Hold.TheVariants.{Marks, Axes}
-use Rattle.order_clocks.specs.declared.places.Places.{Places}
+use Rattle.order_clocks.specs.declared.places.LastTouches.{LastTouches}
 use Rattle.order_clocks.proofs.CountLaws.{IsUncounted, racy_steps}
 use Rattle.order_clocks.proofs.CounterLaws.{top_above, top_attained}
 use Rattle.order_clocks.proofs.CountingLaws.{zero_row}
@@ -62,11 +62,11 @@ if_alike : (b : Bool) (x y u : ℕ) → (b ≡ true → x ≡ y) → (if b then 
 if_alike true x y u e = e refl
 if_alike false x y u e = refl
 
-leaves_given : (c : ℕ) (gone : Option Departure) (t : Trace) → leaves_of c gone t ≡ (is_given gone && leaves_of c gone t)
+leaves_given : (c : ℕ) (gone : Option Wakeup) (t : Trace) → leaves_of c gone t ≡ (is_given gone && leaves_of c gone t)
 leaves_given c (Some g) t = refl
 leaves_given c None t = refl
 
-pub last_more : (run : Course) (tracks : Tracks) (i : ℕ) (deed : Deed) (rows : StepRows) (p q r : Places) (place : ℕ)
+pub last_more : (run : Course) (tracks : Tracks) (i : ℕ) (deed : StepEvents) (rows : StepClocks) (p q r : LastTouches) (place : ℕ)
     → IsStep run i deed → IsTracked tracks i deed → AreRows run i rows → AreLast run tracks i p
     → place ≡ count_of rows.act deed.channel
     → ((t : Trace) (c : ℕ) → count_of (spot_at q t) c ≡ (if deed_leaves deed t && (c == deed.channel) then place else count_of (spot_at p t) c))
@@ -114,7 +114,7 @@ above_some f xs n h = elim (top_attained f xs) [
 pub some_above : {A : Type 0} (f : A → ℕ) (xs : List A) (n : ℕ) (a : A) → IsIn a xs → n < f a → n < top f xs
 some_above f xs n a within h = let up = top_above f xs a within in omega arith
 
-minded_goes : (c : ℕ) (gone : Option Departure) (t : Trace) → IsIn t (departure_minds c gone) → is_given gone ≡ true
+minded_goes : (c : ℕ) (gone : Option Wakeup) (t : Trace) → IsIn t (departure_minds c gone) → is_given gone ≡ true
 minded_goes c (Some g) t within = refl
 minded_goes c None t within = absurd within
 
@@ -124,7 +124,7 @@ racy_at run tracks i late c t u =
     let r = w.1.1.1 in
     record { early = w.0; late = w.1.0; trace = w.1.1.0; step = r.step; apart = r.apart }
 
-pub racy_from_act : (run : Course) (tracks : Tracks) (i : ℕ) (deed : Deed) (rows : StepRows) (p : Places) (limit : List ℕ)
+pub racy_from_act : (run : Course) (tracks : Tracks) (i : ℕ) (deed : StepEvents) (rows : StepClocks) (p : LastTouches) (limit : List ℕ)
     → IsStep run i deed → IsTracked tracks i deed → AreRows run i rows → AreLast run tracks i p
     → ((x : ℕ) → count_of limit x ≡ top (λ t. count_of (spot_at p t) x) (deed_minds deed))
     → IsMissed deed.channel rows.act limit → IsRacyAt run tracks i
@@ -144,10 +144,10 @@ racy_from_act run tracks i deed rows p limit is tracked are last limits missed =
       above = omega arith;
     })
 
-abbrev pub HasRacyGo : Places → Deed → StepRows → Type 0
+abbrev pub HasRacyGo : LastTouches → StepEvents → StepClocks → Type 0
 HasRacyGo p deed rows = (c d : ℕ) × (((d == c) ≡ false) × (count_of (slice_index_or rows.goes c []) d < top (λ t. count_of (spot_at p t) d) (departure_minds c (departure_of deed c))))
 
-pub racy_from_go : (run : Course) (tracks : Tracks) (i : ℕ) (deed : Deed) (rows : StepRows) (p : Places)
+pub racy_from_go : (run : Course) (tracks : Tracks) (i : ℕ) (deed : StepEvents) (rows : StepClocks) (p : LastTouches)
     → IsStep run i deed → IsTracked tracks i deed → AreRows run i rows → AreLast run tracks i p
     → HasRacyGo p deed rows → IsRacyAt run tracks i
 racy_from_go run tracks i deed rows p is tracked are last found =
@@ -166,7 +166,7 @@ racy_from_go run tracks i deed rows p is tracked are last found =
       above = omega arith;
     })
 
-pub racy_back : (run : Course) (tracks : Tracks) (i : ℕ) (deed : Deed) (rows : StepRows) (p : Places) (limit : List ℕ)
+pub racy_back : (run : Course) (tracks : Tracks) (i : ℕ) (deed : StepEvents) (rows : StepClocks) (p : LastTouches) (limit : List ℕ)
     → IsStep run i deed → IsTracked tracks i deed → AreRows run i rows → AreLast run tracks i p
     → ((x : ℕ) → count_of limit x ≡ top (λ t. count_of (spot_at p t) x) (deed_minds deed))
     → IsRacyAt run tracks i → IsMissed deed.channel rows.act limit ⊎ HasRacyGo p deed rows
@@ -201,7 +201,7 @@ racy_back run tracks i deed rows p limit is tracked are last limits racy =
         inr (e, c, (other, omega arith))
 
 -- before all events
-pub zero_spots : (p : Places) (row : List ℕ) → ((y : ℕ) → count_of row y ≡ 0)
+pub zero_spots : (p : LastTouches) (row : List ℕ) → ((y : ℕ) → count_of row y ≡ 0)
     → ((m c x : ℕ) → count_of (slice_index_or (slice_index_or p.lowered m []) c []) x ≡ 0) → ((m c x : ℕ) → count_of (slice_index_or (slice_index_or p.needed m []) c []) x ≡ 0) → p.took ≡ replicate AXIS_LIMIT row → p.touched ≡ replicate CHANNEL_PLACES row
     → (t : Trace) (x : ℕ) → count_of (spot_at p t) x ≡ 0
 zero_spots p row none lowered needed took touched (Lowered c m) x = lowered m c x

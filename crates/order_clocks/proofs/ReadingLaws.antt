@@ -1,7 +1,7 @@
 -- One entry more is read.
 use Rattle.axis_sets.specs.declared.limits.TheConstants.{CHANNEL_PLACES}
 use Rattle.std.proofs.Common.{◌≡◌, ℕ, suc, ◌<◌, Bool, false, List, length, slice_index_or, sym, ap, ◌∙◌}
-use Rattle.counter_rows.specs.declared.table.StepRows.{StepRows}
+use Rattle.counter_rows.specs.declared.table.StepClocks.{StepClocks}
 use Rattle.order_clocks.specs.Clocked.{moves_in}
 use Rattle.order_clocks.specs.Counters.{last_rows}
 use Rattle.order_clocks.specs.CourseOf.{course_of}
@@ -10,10 +10,10 @@ use Rattle.order_clocks.specs.Reading.{IsReadAt, IsReaderAt}
 use Rattle.order_clocks.specs.Steps.{AreRows, IsStep, Shows}
 use Rattle.order_clocks.specs.Stops.{channel_at, channels_of, is_alarm_in}
 use Rattle.order_clocks.specs.Watching.{IsLawful, IsRead, Keeps, WatchIsSound}
-use Rattle.step_deeds.specs.declared.deed.Deed.{Deed}
-use Rattle.order_clocks.specs.declared.reader.Reader.{Reader}
-use Rattle.order_clocks.specs.declared.times.Times.{Times}
-use Rattle.order_clocks.specs.declared.watch.Watch.{Watch}
+use Rattle.step_deeds.specs.declared.deed.StepEvents.{StepEvents}
+use Rattle.order_clocks.specs.declared.reader.ClockReader.{ClockReader}
+use Rattle.order_clocks.specs.declared.times.LastClocks.{LastClocks}
+use Rattle.order_clocks.specs.declared.watch.BoardReplay.{BoardReplay}
 use Rattle.order_clocks.proofs.StopLaws.{entry_channel}
 use Rattle.order_clocks.proofs.TellLaws.{only_one}
 use Rattle.order_clocks.proofs.TrackLaws.{read_known}
@@ -28,7 +28,7 @@ pub record EntryRead (b : Board) (es : List EntryView) (place : ℕ) (one : Entr
   pub at : EntryAt b (moves_in es) place one
   pub lawful : IsLawful (board_at b (moves_in es) place) one.channel one.step one.goes alarms
 
-pub entry_read : (b : Board) (es : List EntryView) (place : ℕ) (one : EntryView) (r : Reader) (alarms : Bool) → place < length es → one ≡ slice_index_or es place one → IsReaderAt b es place r → alarms ≡ is_alarm_in r.stops place one.channel
+pub entry_read : (b : Board) (es : List EntryView) (place : ℕ) (one : EntryView) (r : ClockReader) (alarms : Bool) → place < length es → one ≡ slice_index_or es place one → IsReaderAt b es place r → alarms ≡ is_alarm_in r.stops place one.channel
     → EntryRead b es place one alarms
 entry_read b es place one r alarms within is reader found = record {
   at = there;
@@ -46,11 +46,11 @@ entry_read b es place one r alarms within is reader found = record {
     channel = ap (λ (cs : List ℕ). channel_at cs place) (same_channels es) ∙ (entry_channel es place one within ∙ ap (λ (e : EntryView). e.channel) (sym is))
 
 -- the deed is what happens
-pub deed_read : (b : Board) (es : List EntryView) (place : ℕ) (one : EntryView) (alarms : Bool) (deed : Deed) → EntryRead b es place one alarms
+pub deed_read : (b : Board) (es : List EntryView) (place : ℕ) (one : EntryView) (alarms : Bool) (deed : StepEvents) → EntryRead b es place one alarms
     → IsRead deed (happening_of (board_at b (moves_in es) place) one.channel one.step) → IsRead deed (happening_at b (moves_in es) place)
 deed_read b es place one alarms deed entry read = rw entry.at.happening read
 
-pub next_reader : (b : Board) (es : List EntryView) (place : ℕ) (one : EntryView) (alarms : Bool) (deed : Deed) (r : Reader) (watch : Watch) (times : Times) → EntryRead b es place one alarms → IsReaderAt b es place r
+pub next_reader : (b : Board) (es : List EntryView) (place : ℕ) (one : EntryView) (alarms : Bool) (deed : StepEvents) (r : ClockReader) (watch : BoardReplay) (times : LastClocks) → EntryRead b es place one alarms → IsReaderAt b es place r
     → IsRead deed (happening_of (board_at b (moves_in es) place) one.channel one.step)
     → WatchIsSound watch → Keeps watch (after_step (board_at b (moves_in es) place) one.channel one.step)
     → (IsStep (course_of b (moves_in es)) place deed → Shows times (last_rows (course_of b (moves_in es)) (suc place)))
@@ -63,7 +63,7 @@ next_reader b es place one alarms deed r watch times entry reader read sound kee
   shows = shows (read_step b (moves_in es) place deed (deed_read b es place one alarms deed entry read));
 }
 
-pub read_at : (b : Board) (es : List EntryView) (place : ℕ) (one : EntryView) (alarms : Bool) (deed : Deed) (rows : StepRows) (watch : Watch) → EntryRead b es place one alarms
+pub read_at : (b : Board) (es : List EntryView) (place : ℕ) (one : EntryView) (alarms : Bool) (deed : StepEvents) (rows : StepClocks) (watch : BoardReplay) → EntryRead b es place one alarms
     → IsRead deed (happening_of (board_at b (moves_in es) place) one.channel one.step)
     → WatchIsSound watch → Keeps watch (after_step (board_at b (moves_in es) place) one.channel one.step)
     → goes_in deed 0 ≡ false → length deed.goes ≡ CHANNEL_PLACES

@@ -13,28 +13,28 @@ use Rattle.order_clocks.specs.Counters.{LastRows, act_row, rows_after_act, own_r
 use Rattle.counter_rows.specs.Rows.{top, count_of, in_group, joint_top, joint_count}
 use Rattle.order_clocks.specs.Steps.{gives_of, keys_of, IsStep, row_at, Shows, HasRoom}
 use Rattle.step_deeds.specs.declared.deed.Hold.TheVariants.{Marks, Ends, Axes}
-use Rattle.step_deeds.specs.declared.deed.HoldAtLine.{HoldAtLine}
-use Rattle.step_deeds.specs.declared.deed.Departure.{Departure}
-use Rattle.step_deeds.specs.declared.deed.Deed.{Deed}
-use Rattle.order_clocks.specs.declared.times.Times.{Times}
+use Rattle.step_deeds.specs.declared.deed.WaitAt.{WaitAt}
+use Rattle.step_deeds.specs.declared.deed.Wakeup.{Wakeup}
+use Rattle.step_deeds.specs.declared.deed.StepEvents.{StepEvents}
+use Rattle.order_clocks.specs.declared.times.LastClocks.{LastClocks}
 use Rattle.order_clocks.proofs.CounterLaws.{top_above, in_filter, filter_in, is_in, contains_from, opened_actor, opened_other, opened_given, opened_kept, closed_goer, closed_other, closed_last}
 use Rattle.order_clocks.proofs.GoRowLaws.{top_same, top_map, in_range, contains_group}
 use Rattle.step_deeds.specs.Holds.{departure_of, goes_in}
 
-pub row_at_same : (t u : Times) → t.raised ≡ u.raised → t.freed ≡ u.freed → t.started ≡ u.started → t.ended ≡ u.ended → (k : Key) → row_at t k ≡ row_at u k
+pub row_at_same : (t u : LastClocks) → t.raised ≡ u.raised → t.freed ≡ u.freed → t.started ≡ u.started → t.ended ≡ u.ended → (k : Key) → row_at t k ≡ row_at u k
 row_at_same t u raised freed started ended (Raised c m) = ap (λ (r : List (List (List ℕ))). slice_index_or (slice_index_or r m []) c []) raised
 row_at_same t u raised freed started ended (Freed x) = ap (λ (r : List (List ℕ)). slice_index_or r x []) freed
 row_at_same t u raised freed started ended (Started c) = ap (λ (r : List (List ℕ)). slice_index_or r c []) started
 row_at_same t u raised freed started ended (Ended c) = ap (λ (r : List (List ℕ)). slice_index_or r c []) ended
 
 -- the keys of a Go, by its hold
-pub asked_marks : (c : ℕ) (gone : Option Departure) (g : Departure) (h : HoldAtLine) (m : ℕ) (named : List Bool) → gone ≡ Some g → g.held ≡ Some h → h.hold ≡ Marks m named → keys_of c gone ≡ map (λ d. Raised d m) (members_of named)
+pub asked_marks : (c : ℕ) (gone : Option Wakeup) (g : Wakeup) (h : WaitAt) (m : ℕ) (named : List Bool) → gone ≡ Some g → g.held ≡ Some h → h.hold ≡ Marks m named → keys_of c gone ≡ map (λ d. Raised d m) (members_of named)
 asked_marks c x g h m named one two three = rw (one, two, three) refl
 
-pub asked_ends : (c : ℕ) (gone : Option Departure) (g : Departure) (h : HoldAtLine) (named : List Bool) → gone ≡ Some g → g.held ≡ Some h → h.hold ≡ Ends named → keys_of c gone ≡ map Ended (members_of named)
+pub asked_ends : (c : ℕ) (gone : Option Wakeup) (g : Wakeup) (h : WaitAt) (named : List Bool) → gone ≡ Some g → g.held ≡ Some h → h.hold ≡ Ends named → keys_of c gone ≡ map Ended (members_of named)
 asked_ends c x g h named one two three = rw (one, two, three) refl
 
-pub asked_axes : (c : ℕ) (gone : Option Departure) (g : Departure) (h : HoldAtLine) (axes : List Bool) → gone ≡ Some g → g.held ≡ Some h → h.hold ≡ Axes axes → keys_of c gone ≡ map Freed (members_of g.took)
+pub asked_axes : (c : ℕ) (gone : Option Wakeup) (g : Wakeup) (h : WaitAt) (axes : List Bool) → gone ≡ Some g → g.held ≡ Some h → h.hold ≡ Axes axes → keys_of c gone ≡ map Freed (members_of g.took)
 asked_axes c x g h axes one two three = rw (one, two, three) refl
 
 pub most_is : {A : Type 0} (f : A → ℕ) (h : ℕ → A) (places named : List Bool) (start past : ℕ) (keys : List A) → places ≡ named → start ≡ past → keys ≡ map h (members_of named)
@@ -77,7 +77,7 @@ both_same true p q same = same refl
 both_same false p q same = refl
 
 -- those that go with a channel are the members of its event
-group_is : (run : Course) (i : ℕ) (deed : Deed) (goes : List Bool) (c x : ℕ) → IsStep run i deed → ((d : ℕ) → has goes d ≡ goes_in deed d) → goes_in deed c ≡ true
+group_is : (run : Course) (i : ℕ) (deed : StepEvents) (goes : List Bool) (c x : ℕ) → IsStep run i deed → ((d : ℕ) → has goes d ≡ goes_in deed d) → goes_in deed c ≡ true
     → among (members run i (run.group i c)) x ≡ in_group goes deed.group (slice_index deed.group c) x
 group_is run i deed goes c x is same here =
     contains_filter (λ d. run.group i d == run.group i c) (run.goers i) x
@@ -90,7 +90,7 @@ below_nine goes c size on = elim (cases_lt c CHANNEL_PLACES) [
   | inr past ↦ absurd (true≢false (sym on ∙ get_or-eq_default goes false (omega arith)))
 ]
 
-own_shows : (run : Course) (i : ℕ) (s : LastRows) (deed : Deed) (t : Times) (c x : ℕ) → IsStep run i deed → Shows t s → goes_in deed c ≡ true
+own_shows : (run : Course) (i : ℕ) (s : LastRows) (deed : StepEvents) (t : LastClocks) (c x : ℕ) → IsStep run i deed → Shows t s → goes_in deed c ≡ true
     → max (count_of (slice_index_or t.past c []) x) (top (λ k. count_of (row_at t k) x) (keys_of c (departure_of deed c))) ≡ own_row run i s c x
 unfolding own_row
 own_shows run i s deed t c x is shows here =
@@ -98,7 +98,7 @@ own_shows run i s deed t c x is shows here =
     ∙ (ap (λ (n : ℕ). max (s.past c x) n) (top_same (λ k. count_of (row_at t k) x) (λ k. s.last k x) (keys_of c (departure_of deed c)) (λ k within. shows.last k x))
     ∙ ap (λ (n : ℕ). max (s.past c x) n) (top_alike (λ k. s.last k x) (λ k. s.last k x) (keys_of c (departure_of deed c)) (run.asks i c) (λ k w. ((is.asks c here k).1 w, refl)) (λ k w. ((is.asks c here k).0 w, refl))))
 
-pub go_shows : (run : Course) (i : ℕ) (s : LastRows) (deed : Deed) (t : Times) (goes : List Bool) (own : List (List ℕ)) (c x : ℕ)
+pub go_shows : (run : Course) (i : ℕ) (s : LastRows) (deed : StepEvents) (t : LastClocks) (goes : List Bool) (own : List (List ℕ)) (c x : ℕ)
     → IsStep run i deed → Shows t s → ((d : ℕ) → has goes d ≡ goes_in deed d) → length goes ≡ CHANNEL_PLACES
     → ((d y : ℕ) → d < CHANNEL_PLACES → count_of (slice_index_or own d []) y ≡ max (count_of (slice_index_or t.past d []) y) (top (λ k. count_of (row_at t k) y) (keys_of d (departure_of deed d))))
     → goes_in deed c ≡ true
@@ -124,7 +124,7 @@ go_shows run i s deed t goes own c x is shows same size owns here =
         owns d x (below_nine goes d size parts.0) ∙ own_shows run i s deed t d x is shows (sym (same d) ∙ parts.0)
 
 -- the Act
-pub act_shows : (run : Course) (i : ℕ) (s : LastRows) (deed : Deed) (t : Times) (row : List ℕ) → IsStep run i deed → Shows t s
+pub act_shows : (run : Course) (i : ℕ) (s : LastRows) (deed : StepEvents) (t : LastClocks) (row : List ℕ) → IsStep run i deed → Shows t s
     → ((x : ℕ) → count_of row x ≡ (if x == deed.channel then suc (count_of (slice_index_or t.past deed.channel []) x) else count_of (slice_index_or t.past deed.channel []) x))
     → (x : ℕ) → count_of row x ≡ act_row run i s x
 unfolding act_row
@@ -133,7 +133,7 @@ act_shows run i s deed t row is shows counts x =
     ∙ (ap (λ (n : ℕ). if x == deed.channel then suc n else n) (shows.past deed.channel x)
     ∙ ap (λ (c : ℕ). if x == c then suc (s.past c x) else s.past c x) (sym is.actor))
 
-pub opened_shows : (run : Course) (i : ℕ) (s : LastRows) (deed : Deed) (t u : Times) (row : List ℕ) → IsStep run i deed → Shows t s
+pub opened_shows : (run : Course) (i : ℕ) (s : LastRows) (deed : StepEvents) (t u : LastClocks) (row : List ℕ) → IsStep run i deed → Shows t s
     → ((x : ℕ) → count_of row x ≡ act_row run i s x)
     → ((c : ℕ) → slice_index_or u.past c [] ≡ (if c == deed.channel then row else slice_index_or t.past c []))
     → ((k : Key) → row_at u k ≡ (if gives_of deed k then row else row_at t k))
@@ -154,7 +154,7 @@ opened_shows run i s deed t u row is shows counts past last = record {
 }
 
 -- the Gos
-pub closed_shows : (run : Course) (i : ℕ) (s : LastRows) (deed : Deed) (t u : Times) (goes : List Bool) (rows : List (List ℕ)) → IsStep run i deed → Shows t s
+pub closed_shows : (run : Course) (i : ℕ) (s : LastRows) (deed : StepEvents) (t u : LastClocks) (goes : List Bool) (rows : List (List ℕ)) → IsStep run i deed → Shows t s
     → ((d : ℕ) → has goes d ≡ goes_in deed d)
     → ((c x : ℕ) → goes_in deed c ≡ true → count_of (slice_index_or rows c []) x ≡ go_row run i s (run.group i c) x)
     → ((c : ℕ) → slice_index_or u.past c [] ≡ (if has goes c then slice_index_or rows c [] else slice_index_or t.past c []))
@@ -180,7 +180,7 @@ top_room f (x ∷ xs) n low all =
     let two = top_room f xs n low (λ a within. all a (inr within)) in
     elim (cases_lt (f x) (top f xs)) [ inl h ↦ omega arith | inr h ↦ omega arith ]
 
-pub joint_room : (t : Times) (goes : List Bool) (gone : List (Option Departure)) (group : List ℕ) (own : List (List ℕ)) (g x : ℕ) → HasRoom t 1
+pub joint_room : (t : LastClocks) (goes : List Bool) (gone : List (Option Wakeup)) (group : List ℕ) (own : List (List ℕ)) (g x : ℕ) → HasRoom t 1
     → ((d y : ℕ) → d < CHANNEL_PLACES → count_of (slice_index_or own d []) y ≡ max (count_of (slice_index_or t.past d []) y) (top (λ k. count_of (row_at t k) y) (keys_of d (slice_index_or gone d None))))
     → joint_top own goes group g x + 1 < 2 ^ 64
 joint_room t goes gone group own g x room owns =
@@ -191,7 +191,7 @@ joint_room t goes gone group own g x room owns =
     let two = top_room (λ k. count_of (row_at t k) x) (keys_of d (slice_index_or gone d None)) (2 ^ 64) (omega arith) (λ k _. room.last k x) in
     elim (cases_lt (count_of (slice_index_or t.past d []) x) (top (λ k. count_of (row_at t k) x) (keys_of d (slice_index_or gone d None)))) [ inl h ↦ omega arith | inr h ↦ omega arith ])
 
-pub opened_room : (deed : Deed) (t u : Times) (row : List ℕ) → HasRoom t 2
+pub opened_room : (deed : StepEvents) (t u : LastClocks) (row : List ℕ) → HasRoom t 2
     → ((x : ℕ) → count_of row x ≡ (if x == deed.channel then suc (count_of (slice_index_or t.past deed.channel []) x) else count_of (slice_index_or t.past deed.channel []) x))
     → ((c : ℕ) → slice_index_or u.past c [] ≡ (if c == deed.channel then row else slice_index_or t.past c []))
     → ((k : Key) → row_at u k ≡ (if gives_of deed k then row else row_at t k))

@@ -4,14 +4,14 @@ use Rattle.axis_sets.specs.declared.limits.TheConstants.{CHANNEL_PLACES}
 use Rattle.std.proofs.Common.{◌≡◌, ℕ, suc, ◌<◌, ◌↔◌, Bool, true, false, inl, inr, List, Option, Some, None, slice_index_or, refl, sym, ap, ◌∙◌, arith}
 use Rattle.std.proofs.lemmas.Bool.{cases_lt, cases_eq, true≢false}
 use Rattle.counter_rows.specs.Rows.{count_of}
-use Rattle.counter_rows.specs.declared.table.StepRows.{StepRows}
+use Rattle.counter_rows.specs.declared.table.StepClocks.{StepClocks}
 use Rattle.order_clocks.specs.Courses.{Course, IsEventIn}
 use Rattle.order_clocks.specs.Pairs.{left_by, IsRaceBetween, IsEventOf, IsActEvent, IsGoEvent, IsGoAt, IsActAt, AreEvents, IsKnownStep, IsLeastWith}
 use Rattle.order_clocks.specs.Steps.{act_name, go_name}
 use Rattle.order_clocks.specs.Tracks.{Tracks, IsRacyAt, IsStepRace, IsEarlierRace}
-use Rattle.step_deeds.specs.declared.deed.Deed.{Deed}
+use Rattle.step_deeds.specs.declared.deed.StepEvents.{StepEvents}
 use Rattle.order_clocks.specs.declared.events.Event.{Event}
-use Rattle.order_clocks.specs.declared.pairs.Meeting.TheVariants.{Later}
+use Rattle.order_clocks.specs.declared.pairs.RaceTiming.TheVariants.{Later}
 use Rattle.order_clocks.proofs.ApartLaws.{apart_from, apart_to}
 use Rattle.order_clocks.proofs.PairLaws.{least_none, least_both, least_same}
 use Rattle.step_deeds.proofs.HoldLaws.{past_gone}
@@ -23,7 +23,7 @@ use Rattle.step_deeds.specs.Holds.{goes_in}
 equal_tests : (b d : Bool) → b ≡ d → (b ≡ true) ↔ (d ≡ true)
 equal_tests b d e = ((λ on. sym e ∙ on), (λ on. e ∙ on))
 
-act_named : (run : Course) (tracks : Tracks) (i : ℕ) (deed : Deed) (rows : StepRows) (e : Event) → IsKnownStep run tracks i deed rows → IsActEvent deed rows.act e → IsEventOf run tracks (act_name i deed.channel) e
+act_named : (run : Course) (tracks : Tracks) (i : ℕ) (deed : StepEvents) (rows : StepClocks) (e : Event) → IsKnownStep run tracks i deed rows → IsActEvent deed rows.act e → IsEventOf run tracks (act_name i deed.channel) e
 act_named run tracks i deed rows e known act = record {
   event = known.is.actor;
   channel = act.channel;
@@ -33,7 +33,7 @@ act_named run tracks i deed rows e known act = record {
   minded = λ t. ((λ on. (known.tracked.act_minds t).1 ((act.minded t).0 on)), (λ on. (act.minded t).1 ((known.tracked.act_minds t).0 on)));
 }
 
-go_named : (run : Course) (tracks : Tracks) (i c : ℕ) (deed : Deed) (rows : StepRows) (e : Event) → IsKnownStep run tracks i deed rows → IsGoEvent deed.goes rows.goes c e → IsEventOf run tracks (go_name i c) e
+go_named : (run : Course) (tracks : Tracks) (i c : ℕ) (deed : StepEvents) (rows : StepClocks) (e : Event) → IsKnownStep run tracks i deed rows → IsGoEvent deed.goes rows.goes c e → IsEventOf run tracks (go_name i c) e
 go_named run tracks i c deed rows e known go =
     let here : goes_in deed c ≡ true = go.goes_there in
     record {
@@ -51,7 +51,7 @@ pub record HasName (run : Course) (tracks : Tracks) (i : ℕ) (e : Event) : Type
   pub step : name.step ≡ i
   pub is : IsEventOf run tracks name e
 
-pub event_named : (run : Course) (tracks : Tracks) (i k : ℕ) (deed : Deed) (rows : StepRows) (events : List (Option Event)) (e : Event) → IsKnownStep run tracks i deed rows → AreEvents deed rows events
+pub event_named : (run : Course) (tracks : Tracks) (i k : ℕ) (deed : StepEvents) (rows : StepClocks) (events : List (Option Event)) (e : Event) → IsKnownStep run tracks i deed rows → AreEvents deed rows events
     → k < EVENT_PLACES → slice_index_or events k None ≡ Some e → HasName run tracks i e
 event_named run tracks i k deed rows events e known are below there = elim (cases_eq k 0) [
   | inl first ↦
@@ -77,17 +77,17 @@ pub record HasPlace (run : Course) (tracks : Tracks) (events : List (Option Even
   pub there : slice_index_or events place None ≡ Some event
   pub is : IsEventOf run tracks name event
 
-act_found : (run : Course) (tracks : Tracks) (i : ℕ) (deed : Deed) (rows : StepRows) (events : List (Option Event)) (found : Option Event) → slice_index_or events CHANNEL_PLACES None ≡ found
+act_found : (run : Course) (tracks : Tracks) (i : ℕ) (deed : StepEvents) (rows : StepClocks) (events : List (Option Event)) (found : Option Event) → slice_index_or events CHANNEL_PLACES None ≡ found
     → IsKnownStep run tracks i deed rows → IsActAt deed rows.act found → HasPlace run tracks events (act_name i deed.channel)
 act_found run tracks i deed rows events (Some e) there known act = record { place = CHANNEL_PLACES; within = omega arith; event = e; there = there; is = act_named run tracks i deed rows e known act }
 act_found run tracks i deed rows events None there known act = absurd act
 
-go_found : (run : Course) (tracks : Tracks) (i c : ℕ) (deed : Deed) (rows : StepRows) (events : List (Option Event)) (found : Option Event) → slice_index_or events c None ≡ found → c < CHANNEL_PLACES
+go_found : (run : Course) (tracks : Tracks) (i c : ℕ) (deed : StepEvents) (rows : StepClocks) (events : List (Option Event)) (found : Option Event) → slice_index_or events c None ≡ found → c < CHANNEL_PLACES
     → IsKnownStep run tracks i deed rows → goes_in deed c ≡ true → IsGoAt deed.goes rows.goes c found → HasPlace run tracks events (go_name i c)
 go_found run tracks i c deed rows events (Some e) there below known here go = record { place = c; within = omega arith; event = e; there = there; is = go_named run tracks i c deed rows e known go }
 go_found run tracks i c deed rows events None there below known here go = absurd (true≢false (sym here ∙ go))
 
-pub named_event : (run : Course) (tracks : Tracks) (deed : Deed) (rows : StepRows) (events : List (Option Event)) (i j c : ℕ) (g : Bool) → IsKnownStep run tracks i deed rows → AreEvents deed rows events
+pub named_event : (run : Course) (tracks : Tracks) (deed : StepEvents) (rows : StepClocks) (events : List (Option Event)) (i j c : ℕ) (g : Bool) → IsKnownStep run tracks i deed rows → AreEvents deed rows events
     → j ≡ i → IsEventIn run (record { step = j; channel = c; go = g }) → HasPlace run tracks events (record { step = j; channel = c; go = g })
 named_event run tracks deed rows events i j c true known are same event =
     let here : among (run.goers i) c ≡ true = rw same at event in
@@ -100,7 +100,7 @@ named_event run tracks deed rows events i j c false known are same event =
     let here : c ≡ deed.channel = sym event ∙ (ap (λ (k : ℕ). run.actor k) same ∙ known.is.actor) in
     rw (same, here) (act_found run tracks i deed rows events (slice_index_or events CHANNEL_PLACES None) refl known are.act)
 
-pub step_races : (run : Course) (tracks : Tracks) (j i : ℕ) (early late : Deed) (early_rows late_rows : StepRows) (earlies lates : List (Option Event)) (race : Race)
+pub step_races : (run : Course) (tracks : Tracks) (j i : ℕ) (early late : StepEvents) (early_rows late_rows : StepClocks) (earlies lates : List (Option Event)) (race : Race)
     → IsKnownStep run tracks j early early_rows → IsKnownStep run tracks i late late_rows → AreEvents early early_rows earlies → AreEvents late late_rows lates → j < i
     → IsRaceBetween Later earlies lates EVENT_PLACES race ↔ IsStepRace run tracks j i race
 step_races run tracks j i early late early_rows late_rows earlies lates race known_early known_late are_early are_late less = (to, back)
@@ -168,7 +168,7 @@ pub none_earlier : (run : Course) (tracks : Tracks) (i : ℕ) (old : Option Race
 none_earlier run tracks i old none = least_none (IsEarlierRace run tracks i i) old (λ q r. none (racy_earlier run tracks i q r))
 
 -- one earlier step more, as its events give it
-pub earlier_more : (run : Course) (tracks : Tracks) (j i : ℕ) (early late : Deed) (early_rows late_rows : StepRows) (earlies lates : List (Option Event)) (old mid new : Option Race)
+pub earlier_more : (run : Course) (tracks : Tracks) (j i : ℕ) (early late : StepEvents) (early_rows late_rows : StepClocks) (earlies lates : List (Option Event)) (old mid new : Option Race)
     → IsKnownStep run tracks j early early_rows → IsKnownStep run tracks i late late_rows → AreEvents early early_rows earlies → AreEvents late late_rows lates → j < i
     → IsLeastWith (IsEarlierRace run tracks j i) old mid → IsLeastWith (IsRaceBetween Later earlies lates EVENT_PLACES) mid new → IsLeastWith (IsEarlierRace run tracks (suc j) i) old new
 earlier_more run tracks j i early late early_rows late_rows earlies lates old mid new known_early known_late are_early are_late less first second =

@@ -12,11 +12,11 @@ use Rattle.order_clocks.specs.Happenings.{happening_of, going_of}
 use Rattle.order_clocks.specs.Reading.{IsOnlyOne}
 use Rattle.order_clocks.specs.Watching.{Keeps, GoesFrom, IsGone, IsGoingOf, WaitIsSound, begun_at, begun_shown, go_in, wait_in, wait_shown}
 use Rattle.order_clocks.specs.declared.acts.Act.{Act}
-use Rattle.step_deeds.specs.declared.deed.Departure.{Departure}
+use Rattle.step_deeds.specs.declared.deed.Wakeup.{Wakeup}
 use Rattle.step_deeds.specs.declared.deed.Hold as code
 use Rattle.step_deeds.specs.declared.deed.Hold.TheVariants.{Marks, Ends, Axes}
-use Rattle.step_deeds.specs.declared.deed.HoldAtLine.{HoldAtLine}
-use Rattle.order_clocks.specs.declared.watch.Watch.{Watch}
+use Rattle.step_deeds.specs.declared.deed.WaitAt.{WaitAt}
+use Rattle.order_clocks.specs.declared.watch.BoardReplay.{BoardReplay}
 use Rattle.order_clocks.proofs.DepartLaws.{all_go_from, goings_leave, goings_lower, takers_alike}
 use Rattle.order_clocks.proofs.ReadLaws.{IsChange, part_waits, part_marks, started_waits, running_waits, with_line}
 use Rattle.sync_types.proofs.BoardTests.{no_truth}
@@ -80,7 +80,7 @@ lowers_by_wait (IsHolding (AtEnds named) line) m = refl
 lowers_by_wait (IsHolding (AtAxes axes) line) m = refl
 lowers_by_wait other m = refl
 
-kept_lowers : (held : Option HoldAtLine) (m : ℕ) → lowers_at held m ≡ wait_lowers (wait_shown held) m
+kept_lowers : (held : Option WaitAt) (m : ℕ) → lowers_at held m ≡ wait_lowers (wait_shown held) m
 kept_lowers (Some held) m = by_hold held.hold held.line
   where
     by_hold : (h : code.Hold) (line : ℕ) → lowers_at (Some (record { hold = h; line = line })) m ≡ wait_lowers (wait_shown (Some (record { hold = h; line = line }))) m
@@ -96,11 +96,11 @@ own_marks true false = refl
 own_marks false true = refl
 own_marks false false = refl
 
-begun_kept : (begins : Option code.Hold) (line : ℕ) (old : Option HoldAtLine) → wait_shown old ≡ None → wait_shown (begun_at begins line old) ≡ with_line line (begun_shown begins)
+begun_kept : (begins : Option code.Hold) (line : ℕ) (old : Option WaitAt) → wait_shown old ≡ None → wait_shown (begun_at begins line old) ≡ with_line line (begun_shown begins)
 begun_kept (Some hold) line old none = refl
 begun_kept None line old none = none
 
-pub keeps_part : (old mid : Watch) (b : Board) (c : ℕ) (step : Step) (act : Act) → Keeps old b → is_running (b.state c) ≡ true → IsChange act (happening_of b c step)
+pub keeps_part : (old mid : BoardReplay) (b : Board) (c : ℕ) (step : Step) (act : Act) → Keeps old b → is_running (b.state c) ≡ true → IsChange act (happening_of b c step)
     → ((d m : ℕ) → has (slice_index_or mid.marks d []) m ≡ (if d == c then (has (slice_index_or old.marks d []) m || has act.raises m) && not (has act.lowers m) else has (slice_index_or old.marks d []) m))
     → ((d : ℕ) → slice_index_or mid.holds d None ≡ (if d == c then begun_at act.begins step.line (slice_index_or old.holds d None) else slice_index_or old.holds d None))
     → Keeps mid (after_own_part b c step)
@@ -121,11 +121,11 @@ keeps_part old mid b c step act keeps running change marks holds = record {
 }
 
 -- after those that go on
-shown_either : (t : Bool) (held : Option HoldAtLine) → wait_shown (if t then None else held) ≡ (if t then None else wait_shown held)
+shown_either : (t : Bool) (held : Option WaitAt) → wait_shown (if t then None else held) ≡ (if t then None else wait_shown held)
 shown_either true held = refl
 shown_either false held = refl
 
-pub keeps_goings : (mid new : Watch) (b : Board) (c : ℕ) (step : Step) (goes : List Go) → is_running (b.state c) ≡ true → Keeps mid (after_own_part b c step) → goes ≡ map go_of (goings_in_step b c step)
+pub keeps_goings : (mid new : BoardReplay) (b : Board) (c : ℕ) (step : Step) (goes : List Go) → is_running (b.state c) ≡ true → Keeps mid (after_own_part b c step) → goes ≡ map go_of (goings_in_step b c step)
     → ((d : ℕ) → slice_index_or new.holds d None ≡ (if is_some (go_in goes d) then None else slice_index_or mid.holds d None))
     → ((d m : ℕ) → has (slice_index_or new.marks d []) m ≡ (has (slice_index_or mid.marks d []) m && not (is_some (go_in goes d) && lowers_at (slice_index_or mid.holds d None) m)))
     → Keeps new (after_step b c step)
@@ -179,7 +179,7 @@ axes_by_wait (IsHolding (AtEnds named) line) = refl
 axes_by_wait (IsHolding (AtAxes axes) line) = refl
 axes_by_wait other = refl
 
-kept_axes : (held : Option HoldAtLine) → is_at_axes held ≡ wait_axes (wait_shown held)
+kept_axes : (held : Option WaitAt) → is_at_axes held ≡ wait_axes (wait_shown held)
 kept_axes (Some held) = by_hold held.hold held.line
   where
     by_hold : (h : code.Hold) (line : ℕ) → is_at_axes (Some (record { hold = h; line = line })) ≡ wait_axes (wait_shown (Some (record { hold = h; line = line })))
@@ -198,7 +198,7 @@ asked_by_wait (IsHolding (AtEnds named) line) = refl
 asked_by_wait (IsHolding (AtAxes axes) line) = refl
 asked_by_wait other = refl
 
-asked_below : (held : Option HoldAtLine) (x : ℕ) → WaitIsSound held → among (asked_in (wait_shown held)) x ≡ true → x < AXIS_LIMIT
+asked_below : (held : Option WaitAt) (x : ℕ) → WaitIsSound held → among (asked_in (wait_shown held)) x ≡ true → x < AXIS_LIMIT
 asked_below (Some held) x sound on = by_hold held.hold held.line sound on
   where
     by_hold : (h : code.Hold) (line : ℕ) → WaitIsSound (Some (record { hold = h; line = line })) → among (asked_in (wait_shown (Some (record { hold = h; line = line })))) x ≡ true → x < AXIS_LIMIT
@@ -210,7 +210,7 @@ asked_below (Some held) x sound on = by_hold held.hold held.line sound on
     ]
 asked_below None x sound on = no_truth false on refl
 
-took_read : (b : Board) (g : Going) (held : Option HoldAtLine) (x : ℕ) → GoesFrom b g → WaitIsSound held → wait_shown held ≡ wait_in g.from
+took_read : (b : Board) (g : Going) (held : Option WaitAt) (x : ℕ) → GoesFrom b g → WaitIsSound held → wait_shown held ≡ wait_in g.from
     → (is_at_axes held && is_some (position_of g.grant.at x)) ≡ among g.took x
 took_read b g held x from sound e =
     let same : is_at_axes held ≡ waits_for_axes g.from = kept_axes held ∙ (ap wait_axes e ∙ sym (axes_by_wait g.from)) in
@@ -232,11 +232,11 @@ took_read b g held x from sound e =
     none_asked (IsHolding (AtAxes axes) line) off = no_truth true refl off
     none_asked other off = refl
 
-pub going_read : (mid : Watch) (b : Board) (c : ℕ) (step : Step) (goes : List Go) (d : ℕ) (gone : Option Departure) → is_running (b.state c) ≡ true → Keeps mid (after_own_part b c step)
+pub going_read : (mid : BoardReplay) (b : Board) (c : ℕ) (step : Step) (goes : List Go) (d : ℕ) (gone : Option Wakeup) → is_running (b.state c) ≡ true → Keeps mid (after_own_part b c step)
     → WaitIsSound (slice_index_or mid.holds d None) → goes ≡ map go_of (goings_in_step b c step) → IsGone gone (slice_index_or mid.holds d None) (go_in goes d) → IsGoingOf gone (going_of (goings_in_step b c step) d)
 going_read mid b c step goes d gone running keeps sound are is = by_cases gone (going_of (goings_in_step b c step) d) refl (rw (are, go_found (goings_in_step b c step) d) at is)
   where
-    by_cases : (x : Option Departure) (y : Option Going) → going_of (goings_in_step b c step) d ≡ y → IsGone x (slice_index_or mid.holds d None) (option_map go_of y) → IsGoingOf x y
+    by_cases : (x : Option Wakeup) (y : Option Going) → going_of (goings_in_step b c step) d ≡ y → IsGone x (slice_index_or mid.holds d None) (option_map go_of y) → IsGoingOf x y
     by_cases (Some x) (Some g) e both =
         let w = going_within (goings_in_step b c step) d g e in
         let from = goes_from b c step g running w.0 in

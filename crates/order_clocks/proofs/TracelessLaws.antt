@@ -3,7 +3,7 @@ use Rattle.std.proofs.Common.{◌≡◌, ℕ, suc, ◌==◌, ◌&&◌, Bool, tru
 use Rattle.std.proofs.lemmas.Bool.{true≢false}
 use Rattle.std.proofs.lemmas.Option.{none-some}
 use Rattle.counter_rows.specs.Rows.{count_of}
-use Rattle.counter_rows.specs.declared.table.StepRows.{StepRows}
+use Rattle.counter_rows.specs.declared.table.StepClocks.{StepClocks}
 use Rattle.order_clocks.specs.Chains.{IsIn}
 use Rattle.order_clocks.specs.Courses.{Course}
 use Rattle.order_clocks.specs.Happenings.{happening_at, going_of}
@@ -15,13 +15,13 @@ use Rattle.order_clocks.specs.Reading.{IsOnlyOne}
 use Rattle.order_clocks.specs.Steps.{AreRows, IsStep}
 use Rattle.order_clocks.specs.Tracks.{Tracks}
 use Rattle.order_clocks.specs.Watching.{IsGoingOf, IsRead, begun_shown}
-use Rattle.order_clocks.specs.declared.places.Places.{Places}
+use Rattle.order_clocks.specs.declared.places.LastTouches.{LastTouches}
 use Rattle.order_clocks.proofs.PairLaws.{least_none}
 use Rattle.order_clocks.proofs.PlaceLaws.{last_more}
 use Rattle.order_clocks.proofs.RaceCases.{races_agree}
 use Rattle.step_deeds.specs.Holds.{IsTraceless, departure_of, is_given}
-use Rattle.step_deeds.specs.declared.deed.Deed.{Deed}
-use Rattle.step_deeds.specs.declared.deed.Departure.{Departure}
+use Rattle.step_deeds.specs.declared.deed.StepEvents.{StepEvents}
+use Rattle.step_deeds.specs.declared.deed.Wakeup.{Wakeup}
 use Rattle.sync_types.specs.Boards.{Board, among}
 use Rattle.sync_types.specs.GoingOn.{Going}
 use Rattle.sync_types.specs.Turns.{Move}
@@ -32,17 +32,17 @@ and_off true d off = off
 and_off false d off = refl
 
 -- the last places
-deed_traces : (deed : Deed) (t : Trace) → IsTraceless deed → deed_leaves deed t ≡ false
+deed_traces : (deed : StepEvents) (t : Trace) → IsTraceless deed → deed_leaves deed t ≡ false
 deed_traces deed (Lowered c m) quiet = rw (quiet.lowers m) refl
 deed_traces deed (Needed c m) quiet = refl
 deed_traces deed (Took x) quiet = refl
 deed_traces deed (Touched c) quiet = quiet.touches c
 
-go_traces : (c : ℕ) (gone : Option Departure) (t : Trace) → is_given gone ≡ false → leaves_of c gone t ≡ false
+go_traces : (c : ℕ) (gone : Option Wakeup) (t : Trace) → is_given gone ≡ false → leaves_of c gone t ≡ false
 go_traces c None t none = refl
 go_traces c (Some g) t none = absurd (true≢false none)
 
-pub traceless_places : (run : Course) (tracks : Tracks) (i : ℕ) (deed : Deed) (rows : StepRows) (p : Places)
+pub traceless_places : (run : Course) (tracks : Tracks) (i : ℕ) (deed : StepEvents) (rows : StepClocks) (p : LastTouches)
     → IsStep run i deed → IsTracked tracks i deed → AreRows run i rows → AreLast run tracks i p → IsTraceless deed → AreLast run tracks (suc i) p
 traceless_places run tracks i deed rows p is tracked are last quiet =
     last_more run tracks i deed rows p p p (count_of rows.act deed.channel) is tracked are last refl
@@ -50,12 +50,12 @@ traceless_places run tracks i deed rows p is tracked are last quiet =
     (λ t c. rw (go_traces c (departure_of deed c) t (quiet.goes c)) refl)
 
 -- the races
-none_going : (gone : Option Departure) (g : Option Going) → IsGoingOf gone g → is_given gone ≡ false → g ≡ None
+none_going : (gone : Option Wakeup) (g : Option Going) → IsGoingOf gone g → is_given gone ≡ false → g ≡ None
 none_going None None is none = refl
 none_going None (Some g) is none = absurd is
 none_going (Some gone) g is none = absurd (true≢false none)
 
-traceless_race : (b : Board) (ms : List Move) (i : ℕ) (deed : Deed) (race : Race) → IsRead deed (happening_at b ms i)
+traceless_race : (b : Board) (ms : List Move) (i : ℕ) (deed : StepEvents) (race : Race) → IsRead deed (happening_at b ms i)
     → ((g : Going) → IsIn g (happening_at b ms i).goings → IsOnlyOne (happening_at b ms i).goings g)
     → IsTraceless deed → IsRace b ms i race → ⊥
 traceless_race b ms i deed race read alone quiet is = by_case ((races_agree b ms i race).0 is)
@@ -102,7 +102,7 @@ traceless_race b ms i deed race read alone quiet is = by_case ((races_agree b ms
     by_case (Differ g h m line other_line x named other_named in_g in_h from_g from_h names differ is) = none_in g in_g
     by_case (StillAsks g d x line axes in_g took other after asked is) = none_in g in_g
 
-pub traceless_least : (b : Board) (ms : List Move) (i : ℕ) (deed : Deed) → IsRead deed (happening_at b ms i)
+pub traceless_least : (b : Board) (ms : List Move) (i : ℕ) (deed : StepEvents) → IsRead deed (happening_at b ms i)
     → ((g : Going) → IsIn g (happening_at b ms i).goings → IsOnlyOne (happening_at b ms i).goings g)
     → IsTraceless deed → IsLeastWith (IsRace b ms i) None None
 traceless_least b ms i deed read alone quiet = least_none (IsRace b ms i) None (λ race is. traceless_race b ms i deed race read alone quiet is)

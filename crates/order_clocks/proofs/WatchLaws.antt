@@ -7,7 +7,7 @@ use Rattle.std.proofs.lemmas.Bool.{cases_Bool, cases_lt, eqb-true, eqb-false, lt
 use Rattle.std.proofs.Math.ListN.{get_or-eq_default}
 use Rattle.axis_sets.specs.Sets.{has}
 use Rattle.order_clocks.specs.Watching.{go_in}
-use Rattle.step_deeds.specs.declared.deed.HoldAtLine.{HoldAtLine}
+use Rattle.step_deeds.specs.declared.deed.WaitAt.{WaitAt}
 use Rattle.sync_types.specs.declared.runs.Go.{Go}
 use Rattle.sync_types.proofs.BoardTests.{no_truth}
 use Rattle.step_deeds.specs.Holds.{lowers_at}
@@ -61,7 +61,7 @@ wait_more false true false none one = refl
 wait_more false false true none one = refl
 wait_more false false false none one = refl
 
-pub marks_more : (p q g h : Bool) (wait : Option HoldAtLine) (m : ℕ)
+pub marks_more : (p q g h : Bool) (wait : Option WaitAt) (m : ℕ)
     → ((h && not ((q && g) && lowers_at wait m)) && not ((p && g) && lowers_at (if q && g then None else wait) m)) ≡ (h && not (((p || q) && g) && lowers_at wait m))
 marks_more true true true h wait m = unmarked (h && not (lowers_at wait m))
   where

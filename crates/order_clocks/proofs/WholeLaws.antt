@@ -13,11 +13,11 @@ use Rattle.order_clocks.specs.Steps.{IsStep, gives_of, keys_of, rests_at}
 use Rattle.order_clocks.specs.Stops.{AreActors, AreLastPlaces, IsWhole, TellsAlarms, alarm_at, alarms_in, are_acted, channel_at, channels_of, is_alarm_end, is_alarm_in, is_alarmed}
 use Rattle.order_clocks.specs.declared.stops.Stops.{Stops}
 use Rattle.order_clocks.specs.Watching.{IsGoingOf, IsRead, wait_in, wait_shown}
-use Rattle.step_deeds.specs.declared.deed.Deed.{Deed}
-use Rattle.step_deeds.specs.declared.deed.Departure.{Departure}
+use Rattle.step_deeds.specs.declared.deed.StepEvents.{StepEvents}
+use Rattle.step_deeds.specs.declared.deed.Wakeup.{Wakeup}
 use Rattle.step_deeds.specs.declared.deed.Hold as code
 use Rattle.step_deeds.specs.declared.deed.Hold.TheVariants.{Marks, Ends, Axes}
-use Rattle.step_deeds.specs.declared.deed.HoldAtLine.{HoldAtLine}
+use Rattle.step_deeds.specs.declared.deed.WaitAt.{WaitAt}
 use Rattle.order_clocks.proofs.MemberLaws.{in_members, members_in, in_map, map_in}
 use Rattle.order_clocks.proofs.CounterLaws.{is_in, contains_from}
 use Rattle.order_clocks.proofs.StopLaws.{alarm_ends, no_alarm_ends, acted_awake, fresh_stays, awake_channels, ends_are}
@@ -284,7 +284,7 @@ going_rests g (IsHolding (AtEnds named) line) = refl
 going_rests g (IsHolding (AtAxes axes) line) = refl
 going_rests g other = refl
 
-departure_rests : (c : ℕ) (took : List Bool) (list : List ℕ) (held : Option HoldAtLine) (k : Key) → ((x : ℕ) → has took x ≡ among list x) → IsIn k (rests_by_wait (wait_shown held) c list) ↔ IsIn k (rests_at c took held)
+departure_rests : (c : ℕ) (took : List Bool) (list : List ℕ) (held : Option WaitAt) (k : Key) → ((x : ℕ) → has took x ≡ among list x) → IsIn k (rests_by_wait (wait_shown held) c list) ↔ IsIn k (rests_at c took held)
 unfolding rests_by_wait
 departure_rests c took list (Some held) k same = by_hold held.hold held.line
   where
@@ -303,7 +303,7 @@ and_back true false = refl
 and_back false true = refl
 and_back false false = refl
 
-pub read_step : (b : Board) (ms : List Move) (i : ℕ) (deed : Deed) → IsRead deed (happening_at b ms i) → IsStep (course_of b ms) i deed
+pub read_step : (b : Board) (ms : List Move) (i : ℕ) (deed : StepEvents) → IsRead deed (happening_at b ms i) → IsStep (course_of b ms) i deed
 read_step b ms i deed read = record {
   actor = sym read.channel;
   gives = gives_alike;
@@ -318,13 +318,13 @@ read_step b ms i deed read = record {
     gives_alike (Started c) = sym (read.starts c)
     gives_alike (Ended c) = rw (read.ends, read.channel) (and_back (c == (happening_at b ms i).channel) ((happening_at b ms i).ends))
 
-    given : (x : Option Departure) (y : Option Going) → IsGoingOf x y → is_some y ≡ is_given x
+    given : (x : Option Wakeup) (y : Option Going) → IsGoingOf x y → is_some y ≡ is_given x
     given (Some x) (Some y) is = refl
     given (Some x) None is = absurd is
     given None (Some y) is = absurd is
     given None None is = refl
 
-    rests : (x : Option Departure) (y : Option Going) (c : ℕ) (k : Key) → going_of (happening_at b ms i).goings c ≡ y → IsGoingOf x y → IsIn k (rests_on y) ↔ IsIn k (keys_of c x)
+    rests : (x : Option Wakeup) (y : Option Going) (c : ℕ) (k : Key) → going_of (happening_at b ms i).goings c ≡ y → IsGoingOf x y → IsIn k (rests_on y) ↔ IsIn k (keys_of c x)
     rests (Some x) (Some g) c k e is =
         let w = going_within (happening_at b ms i).goings c g e in
         let same : rests_in g g.from ≡ rests_by_wait (wait_shown x.held) c g.took = going_rests g g.from ∙ (ap (λ (v : Option (Hold × ℕ)). rests_by_wait v g.channel g.took) (sym is.from) ∙ ap (λ (d : ℕ). rests_by_wait (wait_shown x.held) d g.took) w.1) in

@@ -7,7 +7,7 @@ use Rattle.std.proofs.lemmas.Option.{none-some}
 use Rattle.std.proofs.Math.ListN.{get_or-eq_default}
 use Rattle.axis_sets.specs.Sets.{has, members_of}
 use Rattle.axis_sets.proofs.SetLaws.{list_any-members_of}
-use Rattle.counter_rows.specs.declared.table.StepRows.{StepRows}
+use Rattle.counter_rows.specs.declared.table.StepClocks.{StepClocks}
 use Rattle.order_clocks.specs.Chains.{IsIn}
 use Rattle.order_clocks.specs.CourseOf.{course_of}
 use Rattle.order_clocks.specs.Happenings.{happening_at, going_of, line_in}
@@ -19,14 +19,14 @@ use Rattle.order_clocks.specs.TracedRaces.{IsTracedRace, Lowered, Took, Apart, S
 use Rattle.order_clocks.specs.Reading.{AreHolds, IsOnlyOne}
 use Rattle.order_clocks.specs.Tracks.{IsEarlierRace, tracks_of}
 use Rattle.order_clocks.specs.Watching.{IsGoing, IsGoingOf, IsRead, hold_shown, wait_in, wait_shown}
-use Rattle.step_deeds.specs.declared.deed.Deed.{Deed}
-use Rattle.step_deeds.specs.declared.deed.Departure.{Departure}
+use Rattle.step_deeds.specs.declared.deed.StepEvents.{StepEvents}
+use Rattle.step_deeds.specs.declared.deed.Wakeup.{Wakeup}
 use Rattle.step_deeds.specs.declared.deed.Hold as code
 use Rattle.step_deeds.specs.declared.deed.Hold.TheVariants.{Marks, Ends, Axes}
-use Rattle.step_deeds.specs.declared.deed.HoldAtLine.{HoldAtLine}
+use Rattle.step_deeds.specs.declared.deed.WaitAt.{WaitAt}
 use Rattle.order_clocks.specs.declared.events.Event.{Event}
 use Rattle.step_deeds.specs.declared.named.NamedMarks.{NamedMarks}
-use Rattle.order_clocks.specs.declared.pairs.Meeting.TheVariants.{Together, Waiting}
+use Rattle.order_clocks.specs.declared.pairs.RaceTiming.TheVariants.{Together, Waiting}
 use Rattle.order_clocks.proofs.OrderLaws.{event_from, event_in, event_within, order_from, order_in}
 use Rattle.order_clocks.proofs.PairLaws.{least_both, least_same}
 use Rattle.order_clocks.proofs.RaceCases.{races_agree}
@@ -61,7 +61,7 @@ apart_back a b c d off one two = elim (cases_Bool (d == c)) [
 
 -- a going and its event
 record IsGoer (gs : List Going) (g : Going) (e : Event) : Type 0 where
-  gone : Departure
+  gone : Wakeup
   within : IsIn g gs
   channel : g.channel ≡ e.channel
   is : IsGoing gone g
@@ -69,20 +69,20 @@ record IsGoer (gs : List Going) (g : Going) (e : Event) : Type 0 where
   line : e.line ≡ line_in g.from
   needs : e.needs ≡ marks_in gone.held
 
-goer_of : (gs : List Going) (deed : Deed) (rows : StepRows) (p : ℕ) (e : Event) (gone : Departure) (g : Going) → IsGoEvent deed.goes rows.goes p e → departure_of deed p ≡ Some gone → going_of gs p ≡ Some g → IsGoing gone g → g.channel ≡ p
+goer_of : (gs : List Going) (deed : StepEvents) (rows : StepClocks) (p : ℕ) (e : Event) (gone : Wakeup) (g : Going) → IsGoEvent deed.goes rows.goes p e → departure_of deed p ≡ Some gone → going_of gs p ≡ Some g → IsGoing gone g → g.channel ≡ p
     → IsGoer gs g e
 goer_of gs deed rows p e gone g at dep found is same = record {
   gone = gone;
   within = (going_within gs p g found).0;
   channel = same ∙ sym at.channel;
   is = is;
-  took = λ x. at.left (Took x) ∙ (ap (λ (d : Option Departure). leaves_of p d (Took x)) dep ∙ is.took x);
+  took = λ x. at.left (Took x) ∙ (ap (λ (d : Option Wakeup). leaves_of p d (Took x)) dep ∙ is.took x);
   line = at.line ∙ (ap line_of dep ∙ (held_line gone.held ∙ (ap line_by is.from ∙ sym (state_line g.from))));
   needs = at.needs ∙ ap named_marks dep;
 }
 
 -- each event is the act, or one that goes on
-goer_there : (b : Board) (ms : List Move) (i p : ℕ) (deed : Deed) (rows : StepRows) (events : List (Option Event)) (e : Event) → IsRead deed (happening_at b ms i) → AreEvents deed rows events
+goer_there : (b : Board) (ms : List Move) (i p : ℕ) (deed : StepEvents) (rows : StepClocks) (events : List (Option Event)) (e : Event) → IsRead deed (happening_at b ms i) → AreEvents deed rows events
     → p < EVENT_PLACES → slice_index_or events p None ≡ Some e → IsActEvent deed rows.act e ⊎ ((g : Going) × IsGoer (happening_at b ms i).goings g e)
 goer_there b ms i p deed rows events e read are below there = elim (cases_eq p 0) [
   | inl first ↦
@@ -107,11 +107,11 @@ record HasGoer (gs : List Going) (events : List (Option Event)) (g : Going) : Ty
   there : slice_index_or events place None ≡ Some event
   goer : IsGoer gs g event
 
-goer_event : (b : Board) (ms : List Move) (i c : ℕ) (deed : Deed) (rows : StepRows) (events : List (Option Event)) (g : Going) → IsRead deed (happening_at b ms i) → AreEvents deed rows events
+goer_event : (b : Board) (ms : List Move) (i c : ℕ) (deed : StepEvents) (rows : StepClocks) (events : List (Option Event)) (g : Going) → IsRead deed (happening_at b ms i) → AreEvents deed rows events
     → goes_in deed 0 ≡ false → length deed.goes ≡ CHANNEL_PLACES → going_of (happening_at b ms i).goings c ≡ Some g → HasGoer (happening_at b ms i).goings events g
 goer_event b ms i c deed rows events g read are none size found = by_departure (departure_of deed c) refl (rw found at (read.goings c))
   where
-    by_departure : (d : Option Departure) → departure_of deed c ≡ d → IsGoingOf d (Some g) → HasGoer (happening_at b ms i).goings events g
+    by_departure : (d : Option Wakeup) → departure_of deed c ≡ d → IsGoingOf d (Some g) → HasGoer (happening_at b ms i).goings events g
     by_departure None dep is = absurd is
     by_departure (Some gone) dep is =
         let goes : goes_in deed c ≡ true = ap is_given dep in
@@ -154,21 +154,21 @@ ends_of_axes one two e = cc
 -- the wait of a channel and its event
 record HasWait (waits : List (Option Event)) (d : ℕ) (hold : Hold) (line : ℕ) : Type 0 where
   below : d < EVENT_PLACES
-  held : HoldAtLine
+  held : WaitAt
   hold_is : hold_shown held.hold ≡ hold
   line_is : held.line ≡ line
   event : Event
   there : slice_index_or waits d None ≡ Some event
   is : IsWaitEvent held d event
 
-wait_event : (b : Board) (ms : List Move) (i d line : ℕ) (hold : Hold) (holds : List (Option HoldAtLine)) (waits : List (Option Event)) → AreHolds b ms i holds → length holds ≡ CHANNEL_PLACES → AreWaits holds waits
+wait_event : (b : Board) (ms : List Move) (i d line : ℕ) (hold : Hold) (holds : List (Option WaitAt)) (waits : List (Option Event)) → AreHolds b ms i holds → length holds ≡ CHANNEL_PLACES → AreWaits holds waits
     → (happening_at b ms i).after d ≡ IsHolding hold line → HasWait waits d hold line
 wait_event b ms i d line hold holds waits are size waited after = by_hold (slice_index_or holds d None) refl
   where
     shown : wait_shown (slice_index_or holds d None) ≡ Some (hold, line)
     shown = are.hold d ∙ ap wait_in after
 
-    by_hold : (o : Option HoldAtLine) → slice_index_or holds d None ≡ o → HasWait waits d hold line
+    by_hold : (o : Option WaitAt) → slice_index_or holds d None ≡ o → HasWait waits d hold line
     by_hold None there = absurd (none-some (hold, line) (ap wait_shown (sym there) ∙ shown))
     by_hold (Some held) there =
         let same : Some (hold_shown held.hold, held.line) ≡ Some (hold, line) = ap wait_shown (sym there) ∙ shown in
@@ -181,12 +181,12 @@ wait_event b ms i d line hold holds waits are size waited after = by_hold (slice
         ] in
         by_event held one two (slice_index_or waits d None) refl (rw there at (waited.wait d above below)) below
       where
-        by_event : (held : HoldAtLine) → hold_shown held.hold ≡ hold → held.line ≡ line → (o : Option Event) → slice_index_or waits d None ≡ o → IsWaitAt (Some held) d o → d < CHANNEL_PLACES → HasWait waits d hold line
+        by_event : (held : WaitAt) → hold_shown held.hold ≡ hold → held.line ≡ line → (o : Option Event) → slice_index_or waits d None ≡ o → IsWaitAt (Some held) d o → d < CHANNEL_PLACES → HasWait waits d hold line
         by_event held one two None there at below = absurd at
         by_event held one two (Some e) there at below = record { below = omega arith; held = held; hold_is = one; line_is = two; event = e; there = there; is = at }
 
 -- marks by their waits
-marks_from : (held : Option HoldAtLine) (n : ℕ) (named : List Bool) → marks_in held ≡ Some (record { number = n; named = named }) → (line : ℕ) × (wait_shown held ≡ Some (AtMarks n (members_of named), line))
+marks_from : (held : Option WaitAt) (n : ℕ) (named : List Bool) → marks_in held ≡ Some (record { number = n; named = named }) → (line : ℕ) × (wait_shown held ≡ Some (AtMarks n (members_of named), line))
 marks_from (Some held) n named e = by_hold held.hold held.line e
   where
     by_hold : (h : code.Hold) (line : ℕ) → marks_in (Some (record { hold = h; line = line })) ≡ Some (record { number = n; named = named }) → (at : ℕ) × (wait_shown (Some (record { hold = h; line = line })) ≡ Some (AtMarks n (members_of named), at))
@@ -199,7 +199,7 @@ marks_from (Some held) n named e = by_hold held.hold held.line e
     by_hold (Axes others) line same = absurd (none-some (let one : NamedMarks = record { number = n; named = named } in one) (same))
 marks_from None n named e = absurd (none-some (let one : NamedMarks = record { number = n; named = named } in one) (e))
 
-marks_to : (held : Option HoldAtLine) (m line : ℕ) (named : List ℕ) → wait_shown held ≡ Some (AtMarks m named, line) → (set : List Bool) × ((marks_in held ≡ Some (record { number = m; named = set })) × (members_of set ≡ named))
+marks_to : (held : Option WaitAt) (m line : ℕ) (named : List ℕ) → wait_shown held ≡ Some (AtMarks m named, line) → (set : List Bool) × ((marks_in held ≡ Some (record { number = m; named = set })) × (members_of set ≡ named))
 marks_to (Some held) m line named e = by_hold held.hold held.line e
   where
     by_hold : (h : code.Hold) (l : ℕ) → wait_shown (Some (record { hold = h; line = l })) ≡ Some (AtMarks m named, line)
@@ -212,7 +212,7 @@ marks_to (Some held) m line named e = by_hold held.hold held.line e
 marks_to None m line named e = absurd (none-some (AtMarks m named, line) (e))
 
 -- all that is known of a step
-pub record IsTold (b : Board) (ms : List Move) (i : ℕ) (deed : Deed) (rows : StepRows) (events waits : List (Option Event)) (holds : List (Option HoldAtLine)) : Type 0 where
+pub record IsTold (b : Board) (ms : List Move) (i : ℕ) (deed : StepEvents) (rows : StepClocks) (events waits : List (Option Event)) (holds : List (Option WaitAt)) : Type 0 where
   pub inside : i < length ms
   pub read : IsRead deed (happening_at b ms i)
   pub alone : (g : Going) → IsIn g (happening_at b ms i).goings → IsOnlyOne (happening_at b ms i).goings g
@@ -223,7 +223,7 @@ pub record IsTold (b : Board) (ms : List Move) (i : ℕ) (deed : Deed) (rows : S
   pub waited : AreWaits holds waits
 
 -- c and f
-waiting_is : (b : Board) (ms : List Move) (i : ℕ) (deed : Deed) (rows : StepRows) (events waits : List (Option Event)) (holds : List (Option HoldAtLine)) (race : Race) → IsTold b ms i deed rows events waits holds
+waiting_is : (b : Board) (ms : List Move) (i : ℕ) (deed : StepEvents) (rows : StepClocks) (events waits : List (Option Event)) (holds : List (Option WaitAt)) (race : Race) → IsTold b ms i deed rows events waits holds
     → IsRaceBetween Waiting events waits EVENT_PLACES race → IsTracedRace b ms i race
 waiting_is b ms i deed rows events waits holds race told r = elim (cases_eq r.place 0) [
   | inl first ↦
@@ -271,7 +271,7 @@ waiting_is b ms i deed rows events waits holds race told r = elim (cases_eq r.pl
     taken (Marks n named) x line after at channel asks met other is = absurd (false≢true (sym (asks x) ∙ met.minded))
     taken (Ends named) x line after at channel asks met other is = absurd (false≢true (sym (asks x) ∙ met.minded))
 
-    by_hold : (o : Option HoldAtLine) → slice_index_or holds r.place None ≡ o → IsWaitAt o r.place (Some r.late) → IsTracedRace b ms i race
+    by_hold : (o : Option WaitAt) → slice_index_or holds r.place None ≡ o → IsWaitAt o r.place (Some r.late) → IsTracedRace b ms i race
     by_hold None there at = absurd at
     by_hold (Some held) there at =
         let after : (happening_at b ms i).after r.place ≡ IsHolding (hold_shown held.hold) held.line =
@@ -283,7 +283,7 @@ waiting_is b ms i deed rows events waits holds race told r = elim (cases_eq r.pl
         ]
 
 -- d
-together_is : (b : Board) (ms : List Move) (i : ℕ) (deed : Deed) (rows : StepRows) (events waits : List (Option Event)) (holds : List (Option HoldAtLine)) (race : Race) → IsTold b ms i deed rows events waits holds
+together_is : (b : Board) (ms : List Move) (i : ℕ) (deed : StepEvents) (rows : StepClocks) (events waits : List (Option Event)) (holds : List (Option WaitAt)) (race : Race) → IsTold b ms i deed rows events waits holds
     → IsRaceBetween Together events events EVENT_PLACES race → IsTracedRace b ms i race
 together_is b ms i deed rows events waits holds race told r = by_needs r.race_of.early.needs r.late.needs refl refl r.race_of.race_of.unlike
   where
@@ -332,7 +332,7 @@ earlier_is b ms i race inside r =
     }) s.apart.is
 
 -- each race of the step is one of them
-race_is : (b : Board) (ms : List Move) (i : ℕ) (deed : Deed) (rows : StepRows) (events waits : List (Option Event)) (holds : List (Option HoldAtLine)) (race : Race) → IsTold b ms i deed rows events waits holds
+race_is : (b : Board) (ms : List Move) (i : ℕ) (deed : StepEvents) (rows : StepClocks) (events waits : List (Option Event)) (holds : List (Option WaitAt)) (race : Race) → IsTold b ms i deed rows events waits holds
     → IsTracedRace b ms i race → (IsRaceBetween Waiting events waits EVENT_PLACES race ⊎ IsRaceBetween Together events events EVENT_PLACES race) ⊎ IsEarlierRace (course_of b ms) (tracks_of b ms) i i race
 race_is b ms i deed rows events waits holds race told (Apart early late trace step apart is) =
     let before = apart.step in
@@ -391,7 +391,7 @@ race_is b ms i deed rows events waits holds race told (StillWaits lowering d m l
       };
     }))
   where
-    marks_same : (held : HoldAtLine) → marks_of_hold held.hold ≡ marks_in (Some held)
+    marks_same : (held : WaitAt) → marks_of_hold held.hold ≡ marks_in (Some held)
     marks_same held = by_hold held.hold held.line
       where
         by_hold : (h : code.Hold) (l : ℕ) → marks_of_hold h ≡ marks_in (Some (record { hold = h; line = l }))
@@ -475,7 +475,7 @@ race_is b ms i deed rows events waits holds race told (StillAsks g d x line axes
     asks_from (Ends named) e = absurd (ends_of_axes (members_of named) axes e)
 
 -- the races of the step
-pub step_is : (b : Board) (ms : List Move) (i : ℕ) (deed : Deed) (rows : StepRows) (events waits : List (Option Event)) (holds : List (Option HoldAtLine)) → IsTold b ms i deed rows events waits holds → (race : Race)
+pub step_is : (b : Board) (ms : List Move) (i : ℕ) (deed : StepEvents) (rows : StepClocks) (events waits : List (Option Event)) (holds : List (Option WaitAt)) → IsTold b ms i deed rows events waits holds → (race : Race)
     → ((IsRaceBetween Waiting events waits EVENT_PLACES race ⊎ IsRaceBetween Together events events EVENT_PLACES race) ⊎ IsEarlierRace (course_of b ms) (tracks_of b ms) i i race) ↔ IsRace b ms i race
 step_is b ms i deed rows events waits holds told race = (
   (λ r. elim r [
@@ -488,7 +488,7 @@ step_is b ms i deed rows events waits holds told race = (
   (λ r. race_is b ms i deed rows events waits holds race told ((races_agree b ms i race).0 r)),
 )
 
-pub step_least : (b : Board) (ms : List Move) (i : ℕ) (deed : Deed) (rows : StepRows) (events waits : List (Option Event)) (holds : List (Option HoldAtLine)) (mid new : Option Race) → IsTold b ms i deed rows events waits holds
+pub step_least : (b : Board) (ms : List Move) (i : ℕ) (deed : StepEvents) (rows : StepClocks) (events waits : List (Option Event)) (holds : List (Option WaitAt)) (mid new : Option Race) → IsTold b ms i deed rows events waits holds
     → IsLeastWith (λ race. IsRaceBetween Waiting events waits EVENT_PLACES race ⊎ IsRaceBetween Together events events EVENT_PLACES race) None mid → IsLeastWith (IsEarlierRace (course_of b ms) (tracks_of b ms) i i) mid new
     → IsLeastWith (IsRace b ms i) None new
 step_least b ms i deed rows events waits holds mid new told first second =

@@ -12,14 +12,14 @@ use Rattle.order_clocks.specs.RaceOrder.{IsUpTo, numbers_of, letter_c, letter_d,
 use Rattle.order_clocks.specs.TracedRaces.{Trace, Lowered, Needed, Took, Touched, shown}
 use Rattle.order_clocks.specs.Steps.{AreRows, IsStep}
 use Rattle.order_clocks.specs.Tracks.{Tracks}
-use Rattle.counter_rows.specs.declared.table.StepRows.{StepRows}
-use Rattle.step_deeds.specs.declared.deed.Deed.{Deed}
-use Rattle.step_deeds.specs.declared.deed.Departure.{Departure}
-use Rattle.step_deeds.specs.declared.deed.HoldAtLine.{HoldAtLine}
+use Rattle.counter_rows.specs.declared.table.StepClocks.{StepClocks}
+use Rattle.step_deeds.specs.declared.deed.StepEvents.{StepEvents}
+use Rattle.step_deeds.specs.declared.deed.Wakeup.{Wakeup}
+use Rattle.step_deeds.specs.declared.deed.WaitAt.{WaitAt}
 use Rattle.order_clocks.specs.declared.events.Event.{Event}
 use Rattle.step_deeds.specs.declared.named.NamedMarks.{NamedMarks}
-use Rattle.order_clocks.specs.declared.pairs.Meeting.{Meeting}
-use Rattle.order_clocks.specs.declared.pairs.Meeting.TheVariants.{Later, Together, Waiting}
+use Rattle.order_clocks.specs.declared.pairs.RaceTiming.{RaceTiming}
+use Rattle.order_clocks.specs.declared.pairs.RaceTiming.TheVariants.{Later, Together, Waiting}
 use Rattle.sync_types.specs.declared.runs.EventId.{EventId}
 use Rattle.sync_types.specs.declared.runs.Race.{Race}
 use Rattle.step_deeds.specs.Holds.{asks_of_hold, goes_in, is_given, line_of, marks_of_hold, named_marks, waits_in}
@@ -80,19 +80,19 @@ pub record IsWaitingPair (e l : Event) (race : Race) : Type 0 where
   pub met : (((c m : ℕ) × IsMet e l (Lowered c m)) × (race ≡ record { case = letter_c; first = (e.channel, e.line); second = (l.channel, l.line) }))
       ⊎ (((x : ℕ) × IsMet e l (Took x)) × (race ≡ record { case = letter_f; first = (e.channel, e.line); second = (l.channel, l.line) }))
 
-abbrev pub IsPairRace : Meeting → Event → Event → Race → Type 0
+abbrev pub IsPairRace : RaceTiming → Event → Event → Race → Type 0
 IsPairRace Later e l race = IsApartPair e l race
 IsPairRace Together e l race = IsUnlikePair e l race
 IsPairRace Waiting e l race = IsWaitingPair e l race
 
-pub record IsRaceOver (meeting : Meeting) (events : List (Option Event)) (count : ℕ) (l : Event) (race : Race) : Type 0 where
+pub record IsRaceOver (meeting : RaceTiming) (events : List (Option Event)) (count : ℕ) (l : Event) (race : Race) : Type 0 where
   pub place : ℕ
   pub within : place < count
   pub early : Event
   pub there : slice_index_or events place None ≡ Some early
   pub race_of : IsPairRace meeting early l race
 
-pub record IsRaceBetween (meeting : Meeting) (earlies lates : List (Option Event)) (count : ℕ) (race : Race) : Type 0 where
+pub record IsRaceBetween (meeting : RaceTiming) (earlies lates : List (Option Event)) (count : ℕ) (race : Race) : Type 0 where
   pub place : ℕ
   pub within : place < count
   pub late : Event
@@ -109,7 +109,7 @@ pub record IsEventOf (run : Course) (tracks : Tracks) (name : EventId) (e : Even
   pub minded : (t : Trace) → (minded_by e t ≡ true) ↔ (tracks.minds name t ≡ true)
 
 -- the event of a step at a place: 9 for the act, and a channel's for its going on
-pub record IsActEvent (deed : Deed) (row : List ℕ) (e : Event) : Type 0 where
+pub record IsActEvent (deed : StepEvents) (row : List ℕ) (e : Event) : Type 0 where
   pub channel : e.channel ≡ deed.channel
   pub line : e.line ≡ deed.line
   pub row_is : e.row ≡ row
@@ -117,7 +117,7 @@ pub record IsActEvent (deed : Deed) (row : List ℕ) (e : Event) : Type 0 where
   pub minded : (t : Trace) → (minded_by e t ≡ true) ↔ IsIn t (deed_minds deed)
   pub needs : e.needs ≡ None
 
-pub record IsGoEvent (goes : List (Option Departure)) (rows : List (List ℕ)) (c : ℕ) (e : Event) : Type 0 where
+pub record IsGoEvent (goes : List (Option Wakeup)) (rows : List (List ℕ)) (c : ℕ) (e : Event) : Type 0 where
   pub goes_there : is_given (slice_index_or goes c None) ≡ true
   pub channel : e.channel ≡ c
   pub line : e.line ≡ line_of (slice_index_or goes c None)
@@ -126,41 +126,41 @@ pub record IsGoEvent (goes : List (Option Departure)) (rows : List (List ℕ)) (
   pub minded : (t : Trace) → (minded_by e t ≡ true) ↔ IsIn t (departure_minds c (slice_index_or goes c None))
   pub needs : e.needs ≡ named_marks (slice_index_or goes c None)
 
-abbrev pub IsGoAt : List (Option Departure) → List (List ℕ) → ℕ → Option Event → Type 0
+abbrev pub IsGoAt : List (Option Wakeup) → List (List ℕ) → ℕ → Option Event → Type 0
 IsGoAt goes rows c (Some e) = IsGoEvent goes rows c e
 IsGoAt goes rows c None = is_given (slice_index_or goes c None) ≡ false
 
-abbrev pub IsActAt : Deed → List ℕ → Option Event → Type 0
+abbrev pub IsActAt : StepEvents → List ℕ → Option Event → Type 0
 IsActAt deed row (Some e) = IsActEvent deed row e
 IsActAt deed row None = ⊥
 
 -- the list has the events of the step
-pub record AreEvents (deed : Deed) (rows : StepRows) (events : List (Option Event)) : Type 0 where
+pub record AreEvents (deed : StepEvents) (rows : StepClocks) (events : List (Option Event)) : Type 0 where
   pub go : (c : ℕ) → 0 < c → c < CHANNEL_PLACES → IsGoAt deed.goes rows.goes c (slice_index_or events c None)
   pub none : slice_index_or events 0 None ≡ None
   pub act : IsActAt deed rows.act (slice_index_or events CHANNEL_PLACES None)
 
 -- the event is the wait of a channel
-pub record IsWaitEvent (held : HoldAtLine) (c : ℕ) (e : Event) : Type 0 where
+pub record IsWaitEvent (held : WaitAt) (c : ℕ) (e : Event) : Type 0 where
   pub channel : e.channel ≡ c
   pub line : e.line ≡ held.line
   pub waits : e.waits ≡ marks_of_hold held.hold
   pub asks : (x : ℕ) → has e.asks x ≡ asks_of_hold held.hold x
 
-abbrev pub IsWaitAt : Option HoldAtLine → ℕ → Option Event → Type 0
+abbrev pub IsWaitAt : Option WaitAt → ℕ → Option Event → Type 0
 IsWaitAt (Some held) c (Some e) = IsWaitEvent held c e
 IsWaitAt (Some held) c None = ⊥
 IsWaitAt None c (Some e) = ⊥
 IsWaitAt None c None = Unit {0}
 
 -- the list has the waits of the channels
-pub record AreWaits (holds : List (Option HoldAtLine)) (waits : List (Option Event)) : Type 0 where
+pub record AreWaits (holds : List (Option WaitAt)) (waits : List (Option Event)) : Type 0 where
   pub wait : (c : ℕ) → 0 < c → c < CHANNEL_PLACES → IsWaitAt (slice_index_or holds c None) c (slice_index_or waits c None)
   pub first : slice_index_or waits 0 None ≡ None
   pub last : slice_index_or waits CHANNEL_PLACES None ≡ None
 
 -- the deed is the step of the run, with its traces and rows; only channels from 1 to 8 go on
-pub record IsKnownStep (run : Course) (tracks : Tracks) (i : ℕ) (deed : Deed) (rows : StepRows) : Type 0 where
+pub record IsKnownStep (run : Course) (tracks : Tracks) (i : ℕ) (deed : StepEvents) (rows : StepClocks) : Type 0 where
   pub is : IsStep run i deed
   pub tracked : IsTracked tracks i deed
   pub are : AreRows run i rows

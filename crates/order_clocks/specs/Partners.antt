@@ -1,12 +1,12 @@
 -- Steps. Two that go on and name each other at one mark number, as the code has them.
 use Rattle.axis_sets.specs.declared.limits.TheConstants.{CHANNEL_PLACES}
 use Rattle.std.specs.Prelude.{◌≡◌, ℕ, ◌<◌, true, List, Option, slice_index}
-use Rattle.step_deeds.specs.declared.deed.Departure.{Departure}
+use Rattle.step_deeds.specs.declared.deed.Wakeup.{Wakeup}
 use Rattle.sync_types.specs.Events.{AreLinked, ArePaired, Pair}
 use Rattle.step_deeds.specs.Holds.{are_partners}
 
 -- each two that name each other are a pair of the list
-abbrev pub PairsAllPartners : List Pair → List (Option Departure) → Type 0
+abbrev pub PairsAllPartners : List Pair → List (Option Wakeup) → Type 0
 PairsAllPartners ps goes = (a b : ℕ) → are_partners goes a b ≡ true → ArePaired ps a b
 
 -- channels with one number are joined

@@ -12,18 +12,18 @@ use Rattle.order_clocks.specs.Steps.{Shows}
 use Rattle.order_clocks.specs.Stops.{TellsAlarms}
 use Rattle.order_clocks.specs.Tracks.{tracks_of}
 use Rattle.order_clocks.specs.Watching.{IsRead, Keeps, WatchIsSound, wait_in, wait_shown}
-use Rattle.step_deeds.specs.declared.deed.HoldAtLine.{HoldAtLine}
-use Rattle.order_clocks.specs.declared.reader.Reader.{Reader}
-use Rattle.order_clocks.specs.declared.reader.StepRead.{StepRead}
-use Rattle.order_clocks.specs.declared.search.Search.{Search}
-use Rattle.order_clocks.specs.declared.watch.Watch.{Watch}
+use Rattle.step_deeds.specs.declared.deed.WaitAt.{WaitAt}
+use Rattle.order_clocks.specs.declared.reader.ClockReader.{ClockReader}
+use Rattle.order_clocks.specs.declared.reader.ClockedStep.{ClockedStep}
+use Rattle.order_clocks.specs.declared.search.RaceSearch.{RaceSearch}
+use Rattle.order_clocks.specs.declared.watch.BoardReplay.{BoardReplay}
 use Rattle.sync_types.specs.Boards.{Board, among}
 use Rattle.sync_types.specs.GoingOn.{Going}
 use Rattle.sync_types.specs.Turns.{Move, AreEntries}
 use Rattle.sync_types.specs.Views.{EntryView}
 
 -- the entries before this place have been read
-pub record IsReaderAt (b : Board) (es : List EntryView) (i : ℕ) (r : Reader) : Type 0 where
+pub record IsReaderAt (b : Board) (es : List EntryView) (i : ℕ) (r : ClockReader) : Type 0 where
   pub entries : AreEntries b es
   pub sound : WatchIsSound r.watch
   pub alarms : TellsAlarms b (moves_in es) r.stops
@@ -31,7 +31,7 @@ pub record IsReaderAt (b : Board) (es : List EntryView) (i : ℕ) (r : Reader) :
   pub shows : Shows r.times (last_rows (course_of b (moves_in es)) i)
 
 -- for what each channel waits when the step is over
-pub record AreHolds (b : Board) (moves : List Move) (i : ℕ) (holds : List (Option HoldAtLine)) : Type 0 where
+pub record AreHolds (b : Board) (moves : List Move) (i : ℕ) (holds : List (Option WaitAt)) : Type 0 where
   pub hold : (c : ℕ) → wait_shown (slice_index_or holds c None) ≡ wait_in ((happening_at b moves i).after c)
   pub none : slice_index_or holds 0 None ≡ None
 
@@ -43,13 +43,13 @@ pub record IsOnlyOne (goings : List Going) (g : Going) : Type 0 where
   pub took : (x : ℕ) → among g.took x ≡ true → among other.took x ≡ true
 
 -- what was read is the step of the run, and what is kept says for what channels wait when it is over
-pub record IsReadAt (b : Board) (moves : List Move) (i : ℕ) (read : StepRead) (watch : Watch) : Type 0 where
+pub record IsReadAt (b : Board) (moves : List Move) (i : ℕ) (read : ClockedStep) (watch : BoardReplay) : Type 0 where
   pub deed : IsRead read.deed (happening_at b moves i)
   pub alone : (g : Going) → IsIn g (happening_at b moves i).goings → IsOnlyOne (happening_at b moves i).goings g
   pub known : IsKnownStep (course_of b moves) (tracks_of b moves) i read.deed read.rows
   pub holds : AreHolds b moves i watch.holds
 
 -- the first race of the first steps is known; where there is none, the last places are
-pub record IsSearched (b : Board) (moves : List Move) (i : ℕ) (search : Search) : Type 0 where
+pub record IsSearched (b : Board) (moves : List Move) (i : ℕ) (search : RaceSearch) : Type 0 where
   pub first : IsFirst b moves i search.race
   pub last : search.race ≡ None → AreLast (course_of b moves) (tracks_of b moves) i search.places

@@ -6,12 +6,12 @@ use Rattle.axis_sets.specs.Sets.{has, members_of}
 use Rattle.order_clocks.specs.Groups.{labels}
 use Rattle.order_clocks.specs.Happenings.{Happening, going_of}
 use Rattle.order_clocks.specs.declared.acts.Act.{Act}
-use Rattle.step_deeds.specs.declared.deed.Deed.{Deed}
-use Rattle.step_deeds.specs.declared.deed.Departure.{Departure}
+use Rattle.step_deeds.specs.declared.deed.StepEvents.{StepEvents}
+use Rattle.step_deeds.specs.declared.deed.Wakeup.{Wakeup}
 use Rattle.step_deeds.specs.declared.deed.Hold.TheVariants.{Marks, Ends, Axes}
 use Rattle.step_deeds.specs.declared.deed.Hold as code
-use Rattle.step_deeds.specs.declared.deed.HoldAtLine.{HoldAtLine}
-use Rattle.order_clocks.specs.declared.watch.Watch.{Watch}
+use Rattle.step_deeds.specs.declared.deed.WaitAt.{WaitAt}
+use Rattle.order_clocks.specs.declared.watch.BoardReplay.{BoardReplay}
 use Rattle.sync_types.specs.BoardActions.{marks_after, hold_of, axes_to_free, channels_to_start}
 use Rattle.sync_types.specs.BoardAlarms.{alarm_of}
 use Rattle.sync_types.specs.Boards.{Hold, AtMarks, AtEnds, AtAxes, State, IsHolding, Board, among, is_running}
@@ -39,12 +39,12 @@ abbrev pub begun_shown : Option code.Hold → Option Hold
 begun_shown (Some hold) = Some (hold_shown hold)
 begun_shown None = None
 
-abbrev pub wait_shown : Option HoldAtLine → Option (Hold × ℕ)
+abbrev pub wait_shown : Option WaitAt → Option (Hold × ℕ)
 wait_shown (Some held) = Some (hold_shown held.hold, held.line)
 wait_shown None = None
 
 -- what the code keeps is what the board has
-pub record Keeps (w : Watch) (b : Board) : Type 0 where
+pub record Keeps (w : BoardReplay) (b : Board) : Type 0 where
   pub marks : (c m : ℕ) → has (slice_index_or w.marks c []) m ≡ b.marks c m
   pub holds : (c : ℕ) → wait_shown (slice_index_or w.holds c None) ≡ wait_in (b.state c)
 
@@ -71,18 +71,18 @@ pub record IsNoAct (act : Act) : Type 0 where
   pub begins : begun_shown act.begins ≡ None
 
 -- who goes on as the code reads it: from which wait, and the axes that it took
-pub record IsGoing (gone : Departure) (g : Going) : Type 0 where
+pub record IsGoing (gone : Wakeup) (g : Going) : Type 0 where
   pub from : wait_shown gone.held ≡ wait_in g.from
   pub took : (x : ℕ) → has gone.took x ≡ among g.took x
 
-abbrev pub IsGoingOf : Option Departure → Option Going → Type 0
+abbrev pub IsGoingOf : Option Wakeup → Option Going → Type 0
 IsGoingOf (Some gone) (Some g) = IsGoing gone g
 IsGoingOf (Some gone) None = ⊥
 IsGoingOf None (Some g) = ⊥
 IsGoingOf None None = Unit {0}
 
 -- the deed is what happens
-pub record IsRead (deed : Deed) (h : Happening) : Type 0 where
+pub record IsRead (deed : StepEvents) (h : Happening) : Type 0 where
   pub channel : deed.channel ≡ h.channel
   pub line : deed.line ≡ h.line
   pub raises : (m : ℕ) → has deed.raises m ≡ h.raises m
@@ -111,7 +111,7 @@ pub record GoesFrom (b : Board) (g : Going) : Type 0 where
   pub took : (x : ℕ) → among g.took x ≡ true → among (axes_asked g.from) x ≡ true
 
 -- who goes on goes from where the code has it wait, and took the axes of which its grant has positions
-abbrev pub IsGone : Option Departure → Option HoldAtLine → Option Go → Type 0
+abbrev pub IsGone : Option Wakeup → Option WaitAt → Option Go → Type 0
 IsGone (Some gone) held (Some go) = (gone.held ≡ held) × ((x : ℕ) → has gone.took x ≡ (is_at_axes held && is_some (position_of go.grant.at x)))
 IsGone (Some gone) held None = ⊥
 IsGone None held (Some go) = ⊥
@@ -122,7 +122,7 @@ abbrev pub go_in : List Go → ℕ → Option Go
 go_in goes c = find (λ go. go.channel == c) goes
 
 -- the wait that begins at this line, or the old one
-abbrev pub begun_at : Option code.Hold → ℕ → Option HoldAtLine → Option HoldAtLine
+abbrev pub begun_at : Option code.Hold → ℕ → Option WaitAt → Option WaitAt
 begun_at (Some hold) line old = Some (record { hold = hold; line = line })
 begun_at None line old = old
 
@@ -136,10 +136,10 @@ abbrev pub BeginIsSound : Option code.Hold → Type 0
 BeginIsSound (Some hold) = HoldIsSound hold
 BeginIsSound None = Unit {0}
 
-abbrev pub WaitIsSound : Option HoldAtLine → Type 0
+abbrev pub WaitIsSound : Option WaitAt → Type 0
 WaitIsSound (Some held) = HoldIsSound held.hold
 WaitIsSound None = Unit {0}
 
-pub record WatchIsSound (w : Watch) : Type 0 where
+pub record WatchIsSound (w : BoardReplay) : Type 0 where
   pub holds : (c : ℕ) → WaitIsSound (slice_index_or w.holds c None)
   pub none : slice_index_or w.holds 0 None ≡ None

@@ -9,7 +9,7 @@ ghost use Rattle.sync_types.specs.Runs.{ComesFrom};
 ghost use Rattle.sync_types.specs.Views.{StartView};
 
 use crate::counting::read_run;
-use counter_rows::RowTable;
+use counter_rows::ClockTable;
 use out_of_memory::NoMemory;
 use std::alloc::Global;
 use std::marker::Model;
@@ -18,7 +18,7 @@ use sync_types::{ChannelEnd, Entry, EventId, Race, Run};
 /// Which event of a run is before which, however fast each channel is, and the first race of the run.
 #[derive(Drop)]
 pub struct Clocks {
-    rows: RowTable,
+    rows: ClockTable,
     race: Option<Race>,
 }
 
@@ -32,7 +32,7 @@ impl Model for Clocks {
 
 impl Clocks {
     /// Made of its parts.
-    pub(crate) fn of(rows: RowTable, race: Option<Race>) -> Clocks
+    pub(crate) fn of(rows: ClockTable, race: Option<Race>) -> Clocks
         ensures { result ≡ (record { rows = rows; race = race }) }
     {
         Clocks { rows, race }

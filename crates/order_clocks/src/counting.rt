@@ -7,9 +7,9 @@ ghost use Rattle.std.specs.Prelude.{◌<◌, ◌^◌, length, IfOk};
 ghost use Rattle.sync_types.specs.Boards.{Board};
 
 use crate::clocks::Clocks;
-use crate::reader::{Reader, Replay, StepRead};
-use crate::search::Search;
-use counter_rows::{Row, RowTable};
+use crate::reader::{ClockReader, ClockedStep, Replay};
+use crate::search::RaceSearch;
+use counter_rows::{ClockTable, VectorClock};
 use out_of_memory::NoMemory;
 use std::alloc::Global;
 use step_deeds::goers;
@@ -28,17 +28,17 @@ pub(crate) fn read_run(
     ensures race { (b : Board) → IsWhole b entries.now ends.now
         → IfOk result (λ clocks. IsFirst b (moves_in entries.now) (length entries.now) clocks.race) }
 {
-    let _zero = Row::zero();
-    let first = Reader::new(alloc, entries, ends)?;
+    let _zero = VectorClock::zero();
+    let first = ClockReader::new(alloc, entries, ends)?;
     let replay = Replay {
         entries,
         first: &first,
     };
     let mut reader = first.copied()?;
-    let mut search = Search::new(alloc)?;
-    let mut read = StepRead::none();
+    let mut search = RaceSearch::new(alloc)?;
+    let mut read = ClockedStep::none();
     // Room for the acts. It grows for those that go on.
-    let mut table = RowTable::new(alloc, entries.len(), entries.len())?;
+    let mut table = ClockTable::new(alloc, entries.len(), entries.len())?;
     for place in 0..entries.len() {
         reader.next(entries, place, &mut read);
         search.look(&replay, place, &read, &reader.watch)?;

@@ -9,9 +9,9 @@ ghost use Rattle.std.specs.Prelude.{◌≡◌, ℕ, ◌↔◌, ◌<◌, true, le
 ghost use Rattle.step_deeds.specs.Holds.{DepartsFromMark, HoldAtLineOfMark, asks_begun, asks_of_hold, departure_of, line_of_held, lowers_at, marks_begun, marks_in, marks_of_hold};
 
 use axis_sets::{AxisSet, CHANNEL_PLACES, ChannelId, ChannelSet, MarkSet};
-use counter_rows::{Row, StepRows};
+use counter_rows::{StepClocks, VectorClock};
 use step_deeds::{
-    Deed, Departure, HoldAtLine, NamedMarks, axes_begun, axes_of_hold, line_of, marks_begun,
+    NamedMarks, StepEvents, WaitAt, Wakeup, axes_begun, axes_of_hold, line_of, marks_begun,
     marks_lowered, marks_needed, marks_of_hold,
 };
 
@@ -26,7 +26,7 @@ pub struct Event {
     /// The line that is printed.
     pub line: u32,
     /// Its counters.
-    pub row: Row,
+    pub row: VectorClock,
     /// Its own marks that it lowers.
     pub lowers: MarkSet,
     /// The marks that it needed.
@@ -42,7 +42,7 @@ pub struct Event {
 }
 
 /// The act.
-pub(crate) fn act_event(deed: &Deed, row: Row) -> Event
+pub(crate) fn act_event(deed: &StepEvents, row: VectorClock) -> Event
     ensures { IsActEvent deed.now row result }
 {
     Event {
@@ -59,7 +59,7 @@ pub(crate) fn act_event(deed: &Deed, row: Row) -> Event
 }
 
 /// That a channel goes on.
-pub(crate) fn go_event(channel: ChannelId, gone: &Departure, row: Row) -> Event
+pub(crate) fn go_event(channel: ChannelId, gone: &Wakeup, row: VectorClock) -> Event
     requires { HoldAtLineOfMark gone.now.held }
     ensures channel { result.channel ≡ channel }
     ensures line { result.line ≡ line_of_held gone.now.held }
@@ -92,8 +92,8 @@ fn empty(place: &mut Option<Event>)
 
 /// Puts in its place that a channel goes on, where it does.
 pub(crate) fn put_go(
-    goes: &[Option<Departure>; CHANNEL_PLACES],
-    rows: &[Row; CHANNEL_PLACES],
+    goes: &[Option<Wakeup>; CHANNEL_PLACES],
+    rows: &[VectorClock; CHANNEL_PLACES],
     channel: ChannelId,
     place: &mut Option<Event>,
 )
@@ -109,8 +109,8 @@ pub(crate) fn put_go(
 
 /// Puts in their places, by channel, that channels go on.
 pub(crate) fn put_goes(
-    goes: &[Option<Departure>; CHANNEL_PLACES],
-    rows: &[Row; CHANNEL_PLACES],
+    goes: &[Option<Wakeup>; CHANNEL_PLACES],
+    rows: &[VectorClock; CHANNEL_PLACES],
     events: &mut [Option<Event>; EVENT_PLACES],
 )
     requires numbers { (c : ℕ) → DepartsFromMark (slice_index_or goes.now c None) }
@@ -126,7 +126,11 @@ pub(crate) fn put_goes(
 }
 
 /// Puts the events of a step in their places: by channel that it goes on, and last the act. What stood there is gone.
-pub(crate) fn put_events(deed: &Deed, rows: &StepRows, events: &mut [Option<Event>; EVENT_PLACES])
+pub(crate) fn put_events(
+    deed: &StepEvents,
+    rows: &StepClocks,
+    events: &mut [Option<Event>; EVENT_PLACES],
+)
     requires numbers { (c : ℕ) → DepartsFromMark (departure_of deed.now c) }
     ensures { AreEvents deed.now rows.now events.new }
 {
@@ -135,13 +139,13 @@ pub(crate) fn put_events(deed: &Deed, rows: &StepRows, events: &mut [Option<Even
 }
 
 /// The wait of a channel.
-pub(crate) fn wait_event(channel: ChannelId, held: &HoldAtLine) -> Event
+pub(crate) fn wait_event(channel: ChannelId, held: &WaitAt) -> Event
     ensures { IsWaitEvent held.now channel result }
 {
     Event {
         channel,
         line: held.line,
-        row: Row::zero(),
+        row: VectorClock::zero(),
         lowers: MarkSet::empty(),
         needs: None,
         took: AxisSet::empty(),
@@ -153,7 +157,7 @@ pub(crate) fn wait_event(channel: ChannelId, held: &HoldAtLine) -> Event
 
 /// Puts the wait of a channel in its place, where it waits.
 pub(crate) fn put_wait(
-    holds: &[Option<HoldAtLine>; CHANNEL_PLACES],
+    holds: &[Option<WaitAt>; CHANNEL_PLACES],
     channel: ChannelId,
     place: &mut Option<Event>,
 )
@@ -167,7 +171,7 @@ pub(crate) fn put_wait(
 
 /// Puts the waits of the channels in their places. What stood there is gone.
 pub(crate) fn put_waits(
-    holds: &[Option<HoldAtLine>; CHANNEL_PLACES],
+    holds: &[Option<WaitAt>; CHANNEL_PLACES],
     waits: &mut [Option<Event>; EVENT_PLACES],
 )
     ensures waits { AreWaits holds.now waits.new }

@@ -6,7 +6,7 @@ ghost use Rattle.sync_types.specs.Events.{ArePaired, Pair};
 ghost use Rattle.step_deeds.specs.Holds.{are_partners, named_marks};
 
 use axis_sets::CHANNEL_PLACES;
-use step_deeds::{Departure, are_partners_at};
+use step_deeds::{Wakeup, are_partners_at};
 
 /// Gives all that have the one number the other.
 pub(crate) fn relabel(group: &mut [u8; CHANNEL_PLACES], old: u8, new: u8)
@@ -39,7 +39,7 @@ pub(crate) fn join(group: &mut [u8; CHANNEL_PLACES], a: usize, b: usize)
 /// Gives two channels the same number, where they are partners.
 pub(crate) fn join_partners(
     group: &mut [u8; CHANNEL_PLACES],
-    goes: &[Option<Departure>; CHANNEL_PLACES],
+    goes: &[Option<Wakeup>; CHANNEL_PLACES],
     a: u8,
     b: u8,
 )
@@ -62,7 +62,7 @@ pub(crate) fn join_partners(
 /// Gives each channel that is a partner of this one the same number as it.
 pub(crate) fn join_to(
     group: &mut [u8; CHANNEL_PLACES],
-    goes: &[Option<Departure>; CHANNEL_PLACES],
+    goes: &[Option<Wakeup>; CHANNEL_PLACES],
     a: u8,
 )
     requires from { 1 ≤ a }
@@ -96,7 +96,7 @@ fn each_alone() -> [u8; CHANNEL_PLACES]
 }
 
 /// Numbers for channels: those that go on as one event have one.
-pub(crate) fn groups_of(goes: &[Option<Departure>; CHANNEL_PLACES]) -> [u8; CHANNEL_PLACES]
+pub(crate) fn groups_of(goes: &[Option<Wakeup>; CHANNEL_PLACES]) -> [u8; CHANNEL_PLACES]
     ensures joined { (a b : ℕ) → 1 ≤ a → a < CHANNEL_PLACES → 1 ≤ b → b < CHANNEL_PLACES → are_partners goes.now a b
         ≡ true → slice_index result a ≡ slice_index result b }
     ensures linked { (ps : List Pair) → PairsAllPartners ps goes.now → AreAllLinked ps result }

@@ -18,4 +18,4 @@ mod watch;
 
 pub use clocks::{Clocks, clocks_of};
 pub use step_reader::{ReadStep, StepReader};
-pub(crate) use times::Times;
+pub(crate) use times::LastClocks;

@@ -5,7 +5,7 @@ ghost use Rattle.counter_rows.specs.Rows.{count_of};
 ghost use Rattle.order_clocks.specs.TracedRaces.{Lowered, Needed, Took, Touched};
 ghost use Rattle.order_clocks.specs.Pairs.{AreUnlike, IsApartPair, IsLeastOf, IsLeastWith, IsMet, IsPairRace, IsRaceBetween, IsRaceOver, IsUnlikePair, IsUnordered, IsWaitingPair};
 ghost use Rattle.order_clocks.specs.RaceOrder.{IsUpTo, numbers_of};
-ghost use Rattle.order_clocks.specs.declared.pairs.Meeting.TheVariants.{Later, Together, Waiting};
+ghost use Rattle.order_clocks.specs.declared.pairs.RaceTiming.TheVariants.{Later, Together, Waiting};
 ghost use Rattle.std.specs.Prelude.{◌≡◌, ℕ, ◌↔◌, ◌==◌, ◌||◌, ◌<◌, true, false, IsTrue, MatchOption, length};
 ghost use Rattle.sync_types.specs.declared.runs.Race.{Race};
 ghost use Rattle.step_deeds.specs.Holds.{waits_in};
@@ -16,7 +16,7 @@ use sync_types::Race;
 
 /// How two events of a race stand to one another.
 #[derive(Clone, Copy)]
-pub enum Meeting {
+pub enum RaceTiming {
     /// The second is of a later step.
     Later,
     /// Both go on in one step.
@@ -181,7 +181,7 @@ pub(crate) fn least_waiting(event: &Event, wait: &Event, least: Option<Race>) ->
 
 /// The least of the races so far and those of two events that stand so to one another.
 pub(crate) fn least_pair(
-    meeting: &Meeting,
+    meeting: &RaceTiming,
     early: &Event,
     late: &Event,
     least: Option<Race>,
@@ -189,15 +189,15 @@ pub(crate) fn least_pair(
     ensures { IsLeastWith (IsPairRace meeting.now early.now late.now) least result }
 {
     match meeting {
-        Meeting::Later => least_apart(early, late, least),
-        Meeting::Together => least_unlike(early, late, least),
-        Meeting::Waiting => least_waiting(early, late, least),
+        RaceTiming::Later => least_apart(early, late, least),
+        RaceTiming::Together => least_unlike(early, late, least),
+        RaceTiming::Waiting => least_waiting(early, late, least),
     }
 }
 
 /// The least of the races so far and those of an event with others.
 pub(crate) fn least_over(
-    meeting: &Meeting,
+    meeting: &RaceTiming,
     events: &[Option<Event>; EVENT_PLACES],
     late: &Event,
     start: Option<Race>,
@@ -216,7 +216,7 @@ pub(crate) fn least_over(
 
 /// The least of the races so far and those of events with others.
 pub(crate) fn least_between(
-    meeting: &Meeting,
+    meeting: &RaceTiming,
     earlies: &[Option<Event>; EVENT_PLACES],
     lates: &[Option<Event>; EVENT_PLACES],
     start: Option<Race>,

@@ -12,34 +12,35 @@ ghost use Rattle.step_deeds.specs.Holds.{BeginsAtMark, DepartsFromMark, departur
 
 use axis_sets::{AXIS_LIMIT, CHANNEL_PLACES};
 use counter_rows::{
-    MarkRows, Row, StepRows, at_channel, axis_flags, channel_flags, most_chosen, note_chosen,
+    MarkClocks, StepClocks, VectorClock, at_channel, axis_flags, channel_flags, most_chosen,
+    note_chosen,
 };
 use out_of_memory::NoMemory;
 use std::alloc::Global;
-use step_deeds::{Deed, Departure, Hold};
+use step_deeds::{Hold, StepEvents, Wakeup};
 
 /// For each trace and each channel the counter of its last event that left the trace; 0 for none.
 #[derive(Drop)]
-pub struct Places {
+pub struct LastTouches {
     /// By mark and channel: the mark was lowered.
-    pub lowered: MarkRows,
+    pub lowered: MarkClocks,
     /// By mark and channel: the mark was needed.
-    pub needed: MarkRows,
+    pub needed: MarkClocks,
     /// By axis: it was taken.
-    pub took: [Row; AXIS_LIMIT],
+    pub took: [VectorClock; AXIS_LIMIT],
     /// By channel: INIT or START named it.
-    pub touched: [Row; CHANNEL_PLACES],
+    pub touched: [VectorClock; CHANNEL_PLACES],
 }
 
-impl Places {
+impl LastTouches {
     /// Before all events. `NoMemory` where there is too little.
-    pub(crate) fn new(alloc: Global) -> Result<Places, NoMemory>
+    pub(crate) fn new(alloc: Global) -> Result<LastTouches, NoMemory>
         ensures { IfOk result (λ places. (t : Trace) (c : ℕ) → count_of (spot_at places t) c ≡ 0) }
     {
-        let lowered = MarkRows::new(alloc)?;
-        let needed = MarkRows::new(alloc)?;
-        let zero = Row::zero();
-        Ok(Places {
+        let lowered = MarkClocks::new(alloc)?;
+        let needed = MarkClocks::new(alloc)?;
+        let zero = VectorClock::zero();
+        Ok(LastTouches {
             lowered,
             needed,
             took: [zero; AXIS_LIMIT],
@@ -48,7 +49,7 @@ impl Places {
     }
 
     /// Notes the act.
-    pub(crate) fn note_act(&mut self, deed: &Deed, place: u64)
+    pub(crate) fn note_act(&mut self, deed: &StepEvents, place: u64)
         ensures { (t : Trace) (c : ℕ) → count_of (spot_at self.new t) c
             ≡ (if deed_leaves deed.now t && (c == deed.now.channel) then place else count_of (spot_at self.old t) c) }
     {
@@ -60,7 +61,7 @@ impl Places {
     }
 
     /// Notes that a channel goes on.
-    pub(crate) fn note_go(&mut self, c: usize, gone: &Departure, place: u64)
+    pub(crate) fn note_go(&mut self, c: usize, gone: &Wakeup, place: u64)
         requires channel { c < CHANNEL_PLACES }
         requires number { DepartsFromMark (Some gone.now) }
         ensures { (t : Trace) (d : ℕ) → count_of (spot_at self.new t) d
@@ -79,8 +80,8 @@ impl Places {
     /// Notes all that go on.
     pub(crate) fn note_goes(
         &mut self,
-        goes: &[Option<Departure>; CHANNEL_PLACES],
-        rows: &[Row; CHANNEL_PLACES],
+        goes: &[Option<Wakeup>; CHANNEL_PLACES],
+        rows: &[VectorClock; CHANNEL_PLACES],
     )
         requires numbers { (c : ℕ) → DepartsFromMark (slice_index_or goes.now c None) }
         ensures { (t : Trace) (c : ℕ) → count_of (spot_at self.new t) c
@@ -95,7 +96,7 @@ impl Places {
     }
 
     /// Notes the events of a step.
-    pub(crate) fn note(&mut self, deed: &Deed, rows: &StepRows)
+    pub(crate) fn note(&mut self, deed: &StepEvents, rows: &StepClocks)
         requires numbers { (c : ℕ) → DepartsFromMark (departure_of deed.now c) }
         ensures { (run : Course) (tracks : Tracks) (i : ℕ) → IsStep run i deed.now → IsTracked tracks i deed.now
             → AreRows run i rows.now → AreLast run tracks i self.old → AreLast run tracks (suc i) self.new }
@@ -106,26 +107,26 @@ impl Places {
     }
 
     /// The greatest places of what a hold minds.
-    pub(crate) fn hold_limit(&self, begins: &Option<Hold>) -> Row
+    pub(crate) fn hold_limit(&self, begins: &Option<Hold>) -> VectorClock
         requires number { BeginsAtMark begins.now }
         ensures { (x : ℕ) → count_of result x ≡ top (λ t. count_of (spot_at self.now t) x) (hold_minds begins.now) }
     {
         match begins {
-            None => Row::zero(),
+            None => VectorClock::zero(),
             Some(hold) => match hold {
                 Hold::Marks(m, named) => most_chosen(
                     self.lowered.row(usize::from(*m)),
                     &channel_flags(named),
-                    Row::zero(),
+                    VectorClock::zero(),
                 ),
-                Hold::Ends(_) => Row::zero(),
-                Hold::Axes(axes) => most_chosen(&self.took, &axis_flags(axes), Row::zero()),
+                Hold::Ends(_) => VectorClock::zero(),
+                Hold::Axes(axes) => most_chosen(&self.took, &axis_flags(axes), VectorClock::zero()),
             },
         }
     }
 
     /// The greatest places of what an act minds.
-    pub(crate) fn act_limit(&self, deed: &Deed) -> Row
+    pub(crate) fn act_limit(&self, deed: &StepEvents) -> VectorClock
         requires number { BeginsAtMark deed.now.begins }
         ensures { (x : ℕ) → count_of result x ≡ top (λ t. count_of (spot_at self.now t) x) (deed_minds deed.now) }
     {
@@ -136,20 +137,20 @@ impl Places {
     }
 
     /// The greatest places of what one that goes on minds.
-    pub(crate) fn go_limit(&self, c: usize, gone: &Option<Departure>) -> Row
+    pub(crate) fn go_limit(&self, c: usize, gone: &Option<Wakeup>) -> VectorClock
         requires channel { c < CHANNEL_PLACES }
         requires number { DepartsFromMark gone.now }
         ensures { (x : ℕ) → count_of result x ≡ top (λ t. count_of (spot_at self.now t) x)
             (departure_minds c gone.now) }
     {
         match gone {
-            None => Row::zero(),
+            None => VectorClock::zero(),
             Some(gone) => match &gone.held {
-                None => Row::zero(),
+                None => VectorClock::zero(),
                 Some(held) => match &held.hold {
                     Hold::Marks(m, _) => at_channel(self.needed.row(usize::from(*m)), c),
-                    Hold::Ends(_) => Row::zero(),
-                    Hold::Axes(_) => Row::zero(),
+                    Hold::Ends(_) => VectorClock::zero(),
+                    Hold::Axes(_) => VectorClock::zero(),
                 },
             },
         }
@@ -158,8 +159,8 @@ impl Places {
     /// Whether one that goes on is apart from an earlier event.
     pub(crate) fn has_racy_go(
         &self,
-        goes: &[Option<Departure>; CHANNEL_PLACES],
-        rows: &[Row; CHANNEL_PLACES],
+        goes: &[Option<Wakeup>; CHANNEL_PLACES],
+        rows: &[VectorClock; CHANNEL_PLACES],
     ) -> bool
         requires numbers { (c : ℕ) → DepartsFromMark (slice_index_or goes.now c None) }
         ensures { IsTrue result ↔ ((c d : ℕ) × (((d == c) ≡ false)
@@ -178,7 +179,7 @@ impl Places {
     }
 
     /// Whether an event of the step is apart from one of an earlier step.
-    pub(crate) fn is_racy(&self, deed: &Deed, rows: &StepRows) -> bool
+    pub(crate) fn is_racy(&self, deed: &StepEvents, rows: &StepClocks) -> bool
         requires number { BeginsAtMark deed.now.begins }
         requires numbers { (c : ℕ) → DepartsFromMark (departure_of deed.now c) }
         ensures { (run : Course) (tracks : Tracks) (i : ℕ) → IsStep run i deed.now → IsTracked tracks i deed.now

@@ -6,27 +6,27 @@ ghost use Rattle.order_clocks.specs.Pairs.{AreEvents, AreWaits, IsKnownStep, IsL
 ghost use Rattle.order_clocks.specs.Races.{IsRace};
 ghost use Rattle.order_clocks.specs.Reading.{IsReadAt, IsReaderAt, IsSearched};
 ghost use Rattle.order_clocks.specs.Tracks.{IsEarlierRace, tracks_of};
-ghost use Rattle.step_deeds.specs.declared.deed.Deed.{Deed};
-ghost use Rattle.counter_rows.specs.declared.table.StepRows.{StepRows};
-ghost use Rattle.order_clocks.specs.declared.pairs.Meeting.TheVariants.{Together, Waiting};
+ghost use Rattle.step_deeds.specs.declared.deed.StepEvents.{StepEvents};
+ghost use Rattle.counter_rows.specs.declared.table.StepClocks.{StepClocks};
+ghost use Rattle.order_clocks.specs.declared.pairs.RaceTiming.TheVariants.{Together, Waiting};
 ghost use Rattle.std.specs.Prelude.{◌≡◌, ℕ, suc, ◌<◌, ◌≤◌, ◌^◌, ◌⊎◌, List, None, length, IfOk, IsOk};
 ghost use Rattle.sync_types.specs.Boards.{Board};
 ghost use Rattle.sync_types.specs.Turns.{Move};
 ghost use Rattle.step_deeds.specs.Holds.{BeginsAtMark, DepartsFromMark, departure_of};
 
 use crate::events::{EVENT_PLACES, Event, put_events, put_waits};
-use crate::pairs::{Meeting, least_between};
-use crate::places::Places;
-use crate::reader::{Replay, StepRead};
-use crate::watch::Watch;
+use crate::pairs::{RaceTiming, least_between};
+use crate::places::LastTouches;
+use crate::reader::{ClockedStep, Replay};
+use crate::watch::BoardReplay;
 use out_of_memory::NoMemory;
 use std::alloc::Global;
 use sync_types::Race;
 
 /// The first race so far; and the last events that left a trace, as long as there is none.
 #[derive(Drop)]
-pub(crate) struct Search {
-    pub(crate) places: Places,
+pub(crate) struct RaceSearch {
+    pub(crate) places: LastTouches,
     pub(crate) race: Option<Race>,
     // Room for the events of a step, and for the waits after it: nothing is kept there from step to step.
     events: [Option<Event>; EVENT_PLACES],
@@ -41,8 +41,8 @@ pub(crate) fn least_within(
     ensures { IsLeastWith (λ race. IsRaceBetween Waiting events.now waits.now EVENT_PLACES race ⊎ IsRaceBetween Together
         events.now events.now EVENT_PLACES race) None result }
 {
-    let waiting = least_between(&Meeting::Waiting, events, waits, None);
-    least_between(&Meeting::Together, events, events, waiting)
+    let waiting = least_between(&RaceTiming::Waiting, events, waits, None);
+    least_between(&RaceTiming::Together, events, events, waiting)
 }
 
 /// The least of the races so far and those of a step with the steps before it. `NoMemory` where there is too
@@ -56,7 +56,7 @@ pub(crate) fn least_before(
     requires place { place ≤ length replay.now.entries.now }
     requires few { length replay.now.entries.now < 2 ^ 32 }
     requires reader { (b : Board) × IsReaderAt b replay.now.entries.now 0 replay.now.first.now }
-    ensures { (b : Board) (late : Deed) (rows : StepRows)
+    ensures { (b : Board) (late : StepEvents) (rows : StepClocks)
         → IsReaderAt b replay.now.entries.now 0 replay.now.first.now
         → IsKnownStep (course_of b (moves_in replay.now.entries.now))
         (tracks_of b (moves_in replay.now.entries.now)) place late rows
@@ -67,22 +67,22 @@ pub(crate) fn least_before(
     let mut reader = replay.first.copied()?;
     let mut least = start;
     let mut earlies = [None; EVENT_PLACES];
-    let mut read = StepRead::none();
+    let mut read = ClockedStep::none();
     for j in 0..place {
         reader.next(replay.entries, j, &mut read);
         put_events(&read.deed, &read.rows, &mut earlies);
-        least = least_between(&Meeting::Later, &earlies, lates, least);
+        least = least_between(&RaceTiming::Later, &earlies, lates, least);
     }
     Ok(least)
 }
 
-impl Search {
+impl RaceSearch {
     /// Before the first step. `NoMemory` where there is too little.
-    pub(crate) fn new(alloc: Global) -> Result<Search, NoMemory>
+    pub(crate) fn new(alloc: Global) -> Result<RaceSearch, NoMemory>
         ensures { (b : Board) (moves : List Move) → IfOk result (IsSearched b moves 0) }
     {
-        let places = Places::new(alloc)?;
-        Ok(Search {
+        let places = LastTouches::new(alloc)?;
+        Ok(RaceSearch {
             places,
             race: None,
             events: [None; EVENT_PLACES],
@@ -97,8 +97,8 @@ impl Search {
         &mut self,
         replay: &Replay<'_>,
         place: usize,
-        read: &StepRead,
-        watch: &Watch,
+        read: &ClockedStep,
+        watch: &BoardReplay,
     ) -> Result<Option<Race>, NoMemory>
         requires place { place ≤ length replay.now.entries.now }
         requires few { length replay.now.entries.now < 2 ^ 32 }
@@ -128,8 +128,8 @@ impl Search {
         &mut self,
         replay: &Replay<'_>,
         place: usize,
-        read: &StepRead,
-        watch: &Watch,
+        read: &ClockedStep,
+        watch: &BoardReplay,
     ) -> Result<(), NoMemory>
         requires place { place < length replay.now.entries.now }
         requires few { length replay.now.entries.now < 2 ^ 32 }

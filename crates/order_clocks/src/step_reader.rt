@@ -6,15 +6,15 @@ ghost use Rattle.order_clocks.specs.Stops.{IsWhole};
 ghost use Rattle.sync_types.specs.Boards.{Board};
 
 use crate::stops::{Stops, stops_of};
-use crate::watch::Watch;
-use step_deeds::Deed;
+use crate::watch::BoardReplay;
+use step_deeds::StepEvents;
 use sync_types::{ChannelEnd, Entry};
 
 /// What happens in a step, and whether it alarms.
 #[derive(Clone, Copy)]
 pub struct ReadStep {
     /// What happens; a step that alarms changes nothing.
-    pub deed: Deed,
+    pub deed: StepEvents,
     /// Whether it alarms.
     pub alarms: bool,
 }
@@ -23,7 +23,7 @@ pub struct ReadStep {
 #[derive(Clone, Copy)]
 pub struct StepReader {
     pub(crate) stops: Stops,
-    pub(crate) watch: Watch,
+    pub(crate) watch: BoardReplay,
 }
 
 impl StepReader {
@@ -33,7 +33,7 @@ impl StepReader {
     {
         StepReader {
             stops: stops_of(entries, ends),
-            watch: Watch::new(),
+            watch: BoardReplay::new(),
         }
     }
 
@@ -49,7 +49,7 @@ impl StepReader {
     {
         let entry = &entries[place];
         let alarms = self.stops.is_at(entry, place);
-        let mut deed = Deed::none();
+        let mut deed = StepEvents::none();
         self.watch.tell(entry, alarms, &mut deed);
         ReadStep { deed, alarms }
     }

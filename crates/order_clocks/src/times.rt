@@ -11,37 +11,37 @@ ghost use Rattle.step_deeds.specs.Holds.{DepartsFromMark, departure_of, goes_in}
 
 use axis_sets::{AXIS_LIMIT, CHANNEL_PLACES};
 use counter_rows::{
-    MarkRows, Row, StepRows, at_channel, axis_flags, channel_flags, joint_rows, most_chosen,
-    put_at, put_axes, put_channels, put_rows,
+    MarkClocks, StepClocks, VectorClock, at_channel, axis_flags, channel_flags, joint_rows,
+    most_chosen, put_at, put_axes, put_channels, put_rows,
 };
 use out_of_memory::NoMemory;
 use std::alloc::Global;
-use step_deeds::{Deed, Departure, Hold, goers, is_nobody};
+use step_deeds::{Hold, StepEvents, Wakeup, goers, is_nobody};
 
 /// The counters of the last event of each channel, and of the last Act that gave each key.
 #[derive(Drop)]
-pub struct Times {
+pub struct LastClocks {
     /// By channel.
-    pub past: [Row; CHANNEL_PLACES],
+    pub past: [VectorClock; CHANNEL_PLACES],
     /// By mark and channel: of the raising of the mark.
-    pub raised: MarkRows,
+    pub raised: MarkClocks,
     /// By axis: of the giving away.
-    pub freed: [Row; AXIS_LIMIT],
+    pub freed: [VectorClock; AXIS_LIMIT],
     /// By channel: of the START.
-    pub started: [Row; CHANNEL_PLACES],
+    pub started: [VectorClock; CHANNEL_PLACES],
     /// By channel: of the program end.
-    pub ended: [Row; CHANNEL_PLACES],
+    pub ended: [VectorClock; CHANNEL_PLACES],
 }
 
-impl Times {
+impl LastClocks {
     /// Before all events. `NoMemory` where there is too little.
-    pub fn new(alloc: Global) -> Result<Times, NoMemory>
+    pub fn new(alloc: Global) -> Result<LastClocks, NoMemory>
         ensures past { IfOk result (λ times. (c x : ℕ) → count_of (slice_index_or times.past c []) x ≡ 0) }
         ensures last { IfOk result (λ times. (k : Key) (x : ℕ) → count_of (row_at times k) x ≡ 0) }
     {
-        let raised = MarkRows::new(alloc)?;
-        let zero = Row::zero();
-        Ok(Times {
+        let raised = MarkClocks::new(alloc)?;
+        let zero = VectorClock::zero();
+        Ok(LastClocks {
             past: [zero; CHANNEL_PLACES],
             raised,
             freed: [zero; AXIS_LIMIT],
@@ -51,11 +51,11 @@ impl Times {
     }
 
     /// The same counters, to be changed apart. `NoMemory` where there is too little.
-    pub fn copied(&self) -> Result<Times, NoMemory>
+    pub fn copied(&self) -> Result<LastClocks, NoMemory>
         ensures { IfOk result (λ times. times ≡ self.now) }
     {
         let raised = self.raised.copied()?;
-        Ok(Times {
+        Ok(LastClocks {
             past: self.past,
             raised,
             freed: self.freed,
@@ -65,7 +65,7 @@ impl Times {
     }
 
     /// Counts the Act.
-    pub fn open(&mut self, deed: &Deed) -> Row
+    pub fn open(&mut self, deed: &StepEvents) -> VectorClock
         requires room { count_of (slice_index_or self.old.past deed.now.channel []) deed.now.channel + 1 < 2 ^ 64 }
         ensures row { (c : ℕ) → count_of result c
             ≡ (if c == deed.now.channel then suc (count_of (slice_index_or self.old.past deed.now.channel []) c)
@@ -87,7 +87,7 @@ impl Times {
     }
 
     /// The row of what a Go rests on.
-    pub(crate) fn own_row(&self, c: usize, gone: &Option<Departure>) -> Row
+    pub(crate) fn own_row(&self, c: usize, gone: &Option<Wakeup>) -> VectorClock
         requires channel { c < CHANNEL_PLACES }
         requires number { DepartsFromMark gone.now }
         ensures { (x : ℕ) → count_of result x ≡ max (count_of (slice_index_or self.now.past c []) x)
@@ -114,15 +114,15 @@ impl Times {
     /// For each channel the row of what a Go of it rests on.
     pub(crate) fn own_rows(
         &self,
-        goes: &[Option<Departure>; CHANNEL_PLACES],
-    ) -> [Row; CHANNEL_PLACES]
+        goes: &[Option<Wakeup>; CHANNEL_PLACES],
+    ) -> [VectorClock; CHANNEL_PLACES]
         requires numbers { (c : ℕ) → DepartsFromMark (slice_index_or goes.now c None) }
         ensures rows { (c x : ℕ) → c < CHANNEL_PLACES → count_of (slice_index_or result c []) x
             ≡ max (count_of (slice_index_or self.now.past c []) x)
             (top (λ k. count_of (row_at self.now k) x) (keys_of c (slice_index_or goes.now c None))) }
         ensures size { length result ≡ CHANNEL_PLACES }
     {
-        let mut own = [Row::zero(); CHANNEL_PLACES];
+        let mut own = [VectorClock::zero(); CHANNEL_PLACES];
         for c in 0..CHANNEL_PLACES {
             own[c] = self.own_row(c, &goes[c]);
         }
@@ -130,7 +130,7 @@ impl Times {
     }
 
     /// Counts the Gos, and puts down their rows; that of a channel that does not go on stays as it was.
-    pub(crate) fn close(&mut self, deed: &Deed, rows: &mut [Row; CHANNEL_PLACES])
+    pub(crate) fn close(&mut self, deed: &StepEvents, rows: &mut [VectorClock; CHANNEL_PLACES])
         requires room { HasRoom self.old 1 }
         requires numbers { (c : ℕ) → DepartsFromMark (departure_of deed.now c) }
         ensures shows { (run : Course) (i : ℕ) (s : LastRows) → IsStep run i deed.now → Shows self.old s
@@ -148,9 +148,9 @@ impl Times {
     #[inline(never)]
     fn close_goes(
         &mut self,
-        deed: &Deed,
+        deed: &StepEvents,
         goes: &[bool; CHANNEL_PLACES],
-        rows: &mut [Row; CHANNEL_PLACES],
+        rows: &mut [VectorClock; CHANNEL_PLACES],
     )
         requires room { HasRoom self.old 1 }
         requires numbers { (c : ℕ) → DepartsFromMark (departure_of deed.now c) }
@@ -167,7 +167,7 @@ impl Times {
     }
 
     /// Counts the events of the next step, and puts down their rows.
-    pub fn step(&mut self, deed: &Deed, rows: &mut StepRows)
+    pub fn step(&mut self, deed: &StepEvents, rows: &mut StepClocks)
         requires room { HasRoom self.old 2 }
         requires numbers { (c : ℕ) → DepartsFromMark (departure_of deed.now c) }
         ensures shows { (run : Course) (i : ℕ) → IsStep run i deed.now → Shows self.old (last_rows run i)

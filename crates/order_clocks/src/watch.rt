@@ -16,23 +16,23 @@ use crate::acts::{Act, changes_of, touches_of};
 use crate::groups::groups_of;
 use axis_sets::{AxisId, AxisSet, CHANNEL_PLACES, ChannelId, ChannelSet, MarkSet, Positions};
 use std::marker::Model;
-use step_deeds::{Deed, Departure, HoldAtLine, clear_goes, marks_left, took_of};
+use step_deeds::{StepEvents, WaitAt, Wakeup, clear_goes, marks_left, took_of};
 use sync_types::{Entry, Go, Step};
 
 /// The marks that stand and for what channels wait, by their numbers.
 #[derive(Clone, Copy)]
-pub(crate) struct Watch {
+pub(crate) struct BoardReplay {
     pub(crate) marks: [MarkSet; CHANNEL_PLACES],
-    pub(crate) holds: [Option<HoldAtLine>; CHANNEL_PLACES],
+    pub(crate) holds: [Option<WaitAt>; CHANNEL_PLACES],
 }
 
-impl Watch {
+impl BoardReplay {
     /// Before the first step.
-    pub(crate) fn new() -> Watch
+    pub(crate) fn new() -> BoardReplay
         ensures marks { (c m : ℕ) → has (slice_index_or result.marks c []) m ≡ false }
         ensures holds { (c : ℕ) → slice_index_or result.holds c None ≡ None }
     {
-        Watch {
+        BoardReplay {
             marks: [MarkSet::empty(); CHANNEL_PLACES],
             holds: [None; CHANNEL_PLACES],
         }
@@ -51,12 +51,12 @@ impl Watch {
         self.marks[c] = self.marks[c].union(act.raises).minus(act.lowers);
         match &act.begins {
             None => {}
-            Some(hold) => self.holds[c] = Some(HoldAtLine { hold: *hold, line }),
+            Some(hold) => self.holds[c] = Some(WaitAt { hold: *hold, line }),
         }
     }
 
     /// A channel goes on.
-    pub(crate) fn let_go(&mut self, c: usize, at: &Positions) -> Departure
+    pub(crate) fn let_go(&mut self, c: usize, at: &Positions) -> Wakeup
         requires { c < CHANNEL_PLACES }
         ensures held { result.held ≡ slice_index_or self.old.holds c None }
         ensures took { (x : ℕ) → has result.took x
@@ -72,7 +72,7 @@ impl Watch {
         let took = took_of(&held, at);
         self.marks[c] = marks_left(self.marks[c], &held);
         self.holds[c] = None;
-        Departure { held, took }
+        Wakeup { held, took }
     }
 
     /// A channel goes on, where it is among these.
@@ -81,7 +81,7 @@ impl Watch {
         goes: &[Go],
         goers: &[bool; CHANNEL_PLACES],
         number: u8,
-    ) -> Option<Departure>
+    ) -> Option<Wakeup>
         requires from { 1 ≤ number }
         requires below { number < CHANNEL_PLACES }
         requires goers { (c : ℕ) → has goers.now c ≡ list_any (λ go. go.channel == c) goes.now }
@@ -108,7 +108,7 @@ impl Watch {
     pub(crate) fn depart(
         &mut self,
         goes: &[Go],
-        gone: &mut [Option<Departure>; CHANNEL_PLACES],
+        gone: &mut [Option<Wakeup>; CHANNEL_PLACES],
         group: &mut [u8; CHANNEL_PLACES],
     )
         ensures goes { (c : ℕ) → IsGone (slice_index_or gone.new c None)
@@ -138,10 +138,10 @@ impl Watch {
     }
 }
 
-impl Watch {
+impl BoardReplay {
     /// Reads an entry, and goes on to the next: who acts, with what, and who goes on. What happens is put in the
     /// place of an earlier deed.
-    pub(crate) fn tell(&mut self, entry: &Entry, alarms: bool, deed: &mut Deed)
+    pub(crate) fn tell(&mut self, entry: &Entry, alarms: bool, deed: &mut StepEvents)
         requires sound { WatchIsSound self.old }
         ensures sound { WatchIsSound self.new }
         ensures reads { (b : Board) → Keeps self.old b
@@ -200,7 +200,7 @@ pub(crate) fn put_act(
     line: u32,
     act: &Act,
     touches: ChannelSet,
-    deed: &mut Deed,
+    deed: &mut StepEvents,
 )
     ensures { deed.new ≡ (record {
       channel = channel;

@@ -14,8 +14,8 @@ use Rattle.order_clocks.specs.StepReading.{IsReadStep}
 use Rattle.order_clocks.specs.Steps.{IsStep}
 use Rattle.step_deeds.specs.Holds.{departure_of, goes_in}
 use Rattle.order_clocks.specs.Watching.{IsGoingOf, IsRead, begun_shown}
-use Rattle.step_deeds.specs.declared.deed.Deed.{Deed}
-use Rattle.step_deeds.specs.declared.deed.Departure.{Departure}
+use Rattle.step_deeds.specs.declared.deed.StepEvents.{StepEvents}
+use Rattle.step_deeds.specs.declared.deed.Wakeup.{Wakeup}
 use Rattle.step_deeds.specs.declared.deed.Hold as code
 use Rattle.order_clocks.specs.declared.step_reader.ReadStep.{ReadStep}
 use Rattle.order_clocks.proofs.DepartLaws.{taker_waits, takers_alike}
@@ -63,17 +63,17 @@ first_of_all p k from below none on = first_in_range p CHANNEL_LIMIT 1 k from be
 none_of_all : (p : ℕ → Bool) → ((d : ℕ) → 1 ≤ d → d < CHANNEL_PLACES → p d ≡ false) → first_of (filter p channel_numbers) ≡ None
 none_of_all p none = none_in_range p CHANNEL_LIMIT 1 none
 
-pub lowest_is : (deed : Deed) (c k : ℕ) → 1 ≤ k → k < CHANNEL_PLACES → ((d : ℕ) → 1 ≤ d → d < k → is_with deed c d ≡ false) → is_with deed c k ≡ true → lowest_of deed c ≡ k
+pub lowest_is : (deed : StepEvents) (c k : ℕ) → 1 ≤ k → k < CHANNEL_PLACES → ((d : ℕ) → 1 ≤ d → d < k → is_with deed c d ≡ false) → is_with deed c k ≡ true → lowest_of deed c ≡ k
 unfolding lowest_of
 lowest_is deed c k from below none on = ap (λ (o : Option ℕ). unwrap_or o c) (first_of_all (is_with deed c) k from below none on)
 
-pub lowest_none : (deed : Deed) (c : ℕ) → ((d : ℕ) → 1 ≤ d → d < CHANNEL_PLACES → is_with deed c d ≡ false) → lowest_of deed c ≡ c
+pub lowest_none : (deed : StepEvents) (c : ℕ) → ((d : ℕ) → 1 ≤ d → d < CHANNEL_PLACES → is_with deed c d ≡ false) → lowest_of deed c ≡ c
 unfolding lowest_of
 lowest_none deed c none = ap (λ (o : Option ℕ). unwrap_or o c) (none_of_all (is_with deed c) none)
 
 -- ---- notes as they are shown
 
-pub going_shown : (i : ℕ) (deed : Deed) (go : Go) (lowest : ℕ) (axes : List Bool) → lowest ≡ lowest_of deed go.channel → ((x : ℕ) → has axes x ≡ took_in (departure_of deed go.channel) x)
+pub going_shown : (i : ℕ) (deed : StepEvents) (go : Go) (lowest : ℕ) (axes : List Bool) → lowest ≡ lowest_of deed go.channel → ((x : ℕ) → has axes x ≡ took_in (departure_of deed go.channel) x)
     → shown_note (record { name = record { step = i; channel = lowest; go = true }; channel = go.channel; kind = Run; line = None; on = go.grant.on; axes = axes }) go.grant.at ≡ read_going i deed go
 unfolding shown_note
 going_shown i deed go lowest axes lowest_is took =
@@ -171,7 +171,7 @@ and_alike : (s t u v : Bool) → s ≡ t → (t ≡ true → u ≡ v) → (s && 
 and_alike s true u v e same = rw (e, same refl) refl
 and_alike s false u v e same = rw e refl
 
-lowest_alike : (b : Board) (ms : List Move) (i : ℕ) (deed : Deed) (c : ℕ) → IsRead deed (happening_at b ms i) → goes_in deed c ≡ true
+lowest_alike : (b : Board) (ms : List Move) (i : ℕ) (deed : StepEvents) (c : ℕ) → IsRead deed (happening_at b ms i) → goes_in deed c ≡ true
     → lowest_of deed c ≡ lowest_of_event (happening_at b ms i).goings c
 unfolding lowest_of
 lowest_alike b ms i deed c told goes =
@@ -195,17 +195,17 @@ listed (h ∷ gs) g (inr later) = or_second (h.channel == g.channel) _ (listed g
     or_second false q on = on
 
 -- one that goes on as the code has it
-record IsTold (deed : Deed) (g : Going) : Type 0 where
+record IsTold (deed : StepEvents) (g : Going) : Type 0 where
   goes : goes_in deed g.channel ≡ true
   took : (x : ℕ) → took_in (departure_of deed g.channel) x ≡ among g.took x
 
-told_one : (b : Board) (c : ℕ) (step : Step) (deed : Deed) (g : Going) → is_running (b.state c) ≡ true → IsRead deed (happening_of b c step) → IsIn g (goings_in_step b c step) → IsTold deed g
+told_one : (b : Board) (c : ℕ) (step : Step) (deed : StepEvents) (g : Going) → is_running (b.state c) ≡ true → IsRead deed (happening_of b c step) → IsIn g (goings_in_step b c step) → IsTold deed g
 told_one b c step deed g running told within = by_going (going_of (goings_in_step b c step) g.channel) (departure_of deed g.channel) refl refl (told.goings g.channel)
   where
     own : Board
     own = after_own_part b c step
 
-    by_going : (o : Option Going) (d : Option Departure) → going_of (goings_in_step b c step) g.channel ≡ o → departure_of deed g.channel ≡ d → IsGoingOf (departure_of deed g.channel) (going_of (goings_in_step b c step) g.channel) → IsTold deed g
+    by_going : (o : Option Going) (d : Option Wakeup) → going_of (goings_in_step b c step) g.channel ≡ o → departure_of deed g.channel ≡ d → IsGoingOf (departure_of deed g.channel) (going_of (goings_in_step b c step) g.channel) → IsTold deed g
     by_going None d e f is = no_truth false (ap is_some (sym e) ∙ (going_some (goings_in_step b c step) g.channel ∙ listed (goings_in_step b c step) g within)) refl
     by_going (Some h) None e f is = absurd (rw (e, f) at is)
     by_going (Some h) (Some gone) e f is =
@@ -227,7 +227,7 @@ map_twice : {A B C : Type 0} (f : B → C) (g : A → B) (xs : List A) → map f
 map_twice f g [] = refl
 map_twice f g (x ∷ xs) = ap (λ (rest : List _). f (g x) ∷ rest) (map_twice f g xs)
 
-going_told : (b : Board) (ms : List Move) (i : ℕ) (deed : Deed) (g : Going) → IsRead deed (happening_at b ms i) → IsTold deed g → read_going i deed (go_of g) ≡ going_on_of i (happening_at b ms i).goings g
+going_told : (b : Board) (ms : List Move) (i : ℕ) (deed : StepEvents) (g : Going) → IsRead deed (happening_at b ms i) → IsTold deed g → read_going i deed (go_of g) ≡ going_on_of i (happening_at b ms i).goings g
 going_told b ms i deed g told is =
     let took : took_in (departure_of deed g.channel) ≡ among g.took = fun_ext is.took in
     rw (lowest_alike b ms i deed g.channel told is.goes, took) refl

@@ -2,8 +2,8 @@
 use Rattle.std.specs.Prelude.{ℕ, ℤ, ◌==◌, ◌&&◌, ◌||◌, Bool, false, true, is_some, if◌then◌else◌, List, [], ◌∷◌, map, filter, slice_index, slice_index_or, Option, Some, None, unwrap_or}
 use Rattle.axis_sets.specs.Sets.{has}
 use Rattle.step_deeds.specs.Holds.{departure_of, goes_in}
-use Rattle.step_deeds.specs.declared.deed.Deed.{Deed}
-use Rattle.step_deeds.specs.declared.deed.Departure.{Departure}
+use Rattle.step_deeds.specs.declared.deed.StepEvents.{StepEvents}
+use Rattle.step_deeds.specs.declared.deed.Wakeup.{Wakeup}
 use Rattle.order_clocks.specs.declared.step_reader.ReadStep.{ReadStep}
 use Rattle.zone_stretches.specs.Occurrences.{Occurrence}
 use Rattle.protection_zones.specs.declared.notes.Note.{Note}
@@ -43,14 +43,14 @@ unfoldable pub kind_of_act : ReadStep → StretchKind
 kind_of_act read = if is_some read.deed.begins then Hold else if read.deed.ends || read.alarms then End else Run
 
 -- the lowest channel of those that go on as one event with this one
-abbrev pub is_with : Deed → ℕ → ℕ → Bool
+abbrev pub is_with : StepEvents → ℕ → ℕ → Bool
 is_with deed c d = goes_in deed d && (slice_index deed.group d == slice_index deed.group c)
 
-unfoldable pub lowest_of : Deed → ℕ → ℕ
+unfoldable pub lowest_of : StepEvents → ℕ → ℕ
 lowest_of deed c = unwrap_or (first_of (filter (is_with deed c) channel_numbers)) c
 
 -- the axes that it took
-abbrev pub took_in : Option Departure → ℕ → Bool
+abbrev pub took_in : Option Wakeup → ℕ → Bool
 took_in (Some gone) x = has gone.took x
 took_in None x = false
 
@@ -67,7 +67,7 @@ read_act i read step = record {
   takes = λ axis. false;
 }
 
-abbrev pub read_going : ℕ → Deed → Go → Occurrence
+abbrev pub read_going : ℕ → StepEvents → Go → Occurrence
 read_going i deed go = record {
   name = record { step = i; channel = lowest_of deed go.channel; go = true };
   channel = go.channel;

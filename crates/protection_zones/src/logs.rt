@@ -17,7 +17,7 @@ use axis_sets::{CHANNEL_PLACES, ChannelId, Positions};
 use job_types::Job;
 use order_clocks::{ReadStep, StepReader};
 use std::alloc::{AllocError, Global};
-use step_deeds::Deed;
+use step_deeds::StepEvents;
 use sync_types::{ChannelEnd, Entry, Go, Step};
 
 /// What is kept of the events of a run.
@@ -64,7 +64,7 @@ fn add_event(log: &mut Log, note: &Note, at: &Positions) -> Result<(), AllocErro
 }
 
 /// Adds those that go on in the step of this place.
-fn add_goings(log: &mut Log, place: u32, deed: &Deed, goes: &[Go]) -> Result<(), AllocError>
+fn add_goings(log: &mut Log, place: u32, deed: &StepEvents, goes: &[Go]) -> Result<(), AllocError>
     requires { (job : JobView) × (os : List Occurrence) × IsLog job os log.old }
     ensures { (job : JobView) (os : List Occurrence) → IsLog job os log.old
         → OnOk result (IsLog job (os ++ map (read_going place deed.now) goes.now) log.new) }

@@ -7,7 +7,7 @@ ghost use Rattle.protection_zones.specs.Notes.{is_with, kind_of_act, lowest_of, 
 
 use axis_sets::{AxisSet, CHANNEL_PLACES, ChannelId, ZoneSet};
 use order_clocks::ReadStep;
-use step_deeds::Deed;
+use step_deeds::StepEvents;
 use sync_types::{EventId, Go, Step, StretchKind};
 
 /// An event of a run, in few words, without where axes of its channel stand.
@@ -42,7 +42,7 @@ fn kind_of_act(read: &ReadStep) -> StretchKind
 }
 
 /// Whether a channel goes on as one event with another.
-fn is_with(deed: &Deed, channel: ChannelId, number: u8) -> bool
+fn is_with(deed: &StepEvents, channel: ChannelId, number: u8) -> bool
     requires { number ≤ CHANNEL_LIMIT }
     ensures { result ≡ is_with deed.now channel number }
 {
@@ -52,7 +52,7 @@ fn is_with(deed: &Deed, channel: ChannelId, number: u8) -> bool
 
 /// The lowest channel of those that go on as one event with this one.
 #[tactic(auto, unfolding(crate::specs::Notes::lowest_of))]
-fn lowest_of(deed: &Deed, channel: ChannelId) -> ChannelId
+fn lowest_of(deed: &StepEvents, channel: ChannelId) -> ChannelId
     ensures { result ≡ lowest_of deed.now channel }
 {
     for number in 1..CHANNEL_PLACES as u8 {
@@ -64,7 +64,7 @@ fn lowest_of(deed: &Deed, channel: ChannelId) -> ChannelId
 }
 
 /// The axes that a channel took as it went on.
-fn took_in(deed: &Deed, channel: ChannelId) -> AxisSet
+fn took_in(deed: &StepEvents, channel: ChannelId) -> AxisSet
     ensures { (x : ℕ) → has result x ≡ took_in (departure_of deed.now channel) x }
 {
     match &deed.goes[usize::from(channel.number)] {
@@ -93,7 +93,7 @@ pub(crate) fn act_note(place: u32, read: &ReadStep, step: &Step) -> Note
 }
 
 /// The note of one that goes on, in the step of this place.
-pub(crate) fn going_note(place: u32, deed: &Deed, go: &Go) -> Note
+pub(crate) fn going_note(place: u32, deed: &StepEvents, go: &Go) -> Note
     ensures { shown_note result go.now.grant.at ≡ read_going place deed.now go.now }
 {
     Note {

@@ -45,7 +45,7 @@ pub(crate) struct ZoneShape<'a> {
 
 /// What a channel does at a place of a span.
 #[derive(Clone, Copy)]
-struct Deed<'a> {
+struct StepEvents<'a> {
     /// The place.
     place: u32,
     /// What it does.
@@ -107,7 +107,7 @@ fn push_some(boxes: &mut Vec<ZoneBox>, added: Option<ZoneBox>) -> Result<(), All
 impl<'a> ZoneShape<'a> {
     /// The box of the zone, from a place on, during a motion.
     #[tactic(auto, unfolding(crate::specs::Sweeps::moving_box))]
-    fn moving_box(&self, from: u32, deed: &Deed<'_>) -> ZoneBox
+    fn moving_box(&self, from: u32, deed: &StepEvents<'_>) -> ZoneBox
         requires { IsSound (movement_of deed.now.item.now) }
         ensures { result ≡ model.moving_box self.now.margin self.now.zone.now from deed.now.place deed.now.item.now
             (positions_in deed.now.at.now) }
@@ -137,7 +137,7 @@ impl<'a> ZoneShape<'a> {
     }
 
     /// What is open from the place of a motion on.
-    fn moved_on(&self, deed: &Deed<'_>, opened: Option<ZoneBox>) -> Option<ZoneBox>
+    fn moved_on(&self, deed: &StepEvents<'_>, opened: Option<ZoneBox>) -> Option<ZoneBox>
         requires { IsSound (movement_of deed.now.item.now) }
         ensures { result ≡ model.moved_on self.now.margin self.now.zone.now deed.now.place
             (positions_in deed.now.at.now) deed.now.item.now opened }
@@ -156,7 +156,7 @@ impl<'a> ZoneShape<'a> {
     }
 
     /// What is open from the place of a switch on.
-    fn turned_on(&self, deed: &Deed<'_>, opened: Option<ZoneBox>) -> Option<ZoneBox>
+    fn turned_on(&self, deed: &StepEvents<'_>, opened: Option<ZoneBox>) -> Option<ZoneBox>
         ensures { result ≡ model.turned_on self.now.margin self.now.zone.now deed.now.place
             (positions_in deed.now.at.now) deed.now.item.now opened }
     {
@@ -169,7 +169,7 @@ impl<'a> ZoneShape<'a> {
     /// What is open from the place of an item on.
     fn opened_after(
         &self,
-        deed: &Deed<'_>,
+        deed: &StepEvents<'_>,
         opened: Option<ZoneBox>,
         sight: Sight,
     ) -> Option<ZoneBox>
@@ -245,7 +245,7 @@ impl<'a> ZoneShape<'a> {
         for (place, item) in items.iter().enumerate() {
             let sight = seen(self.zone, item);
             push_some(boxes, ended_before(place as u32, opened, sight))?;
-            let deed = Deed {
+            let deed = StepEvents {
                 place: place as u32 + 1,
                 item,
                 at: &at,

@@ -2,11 +2,11 @@
 use Rattle.std.specs.Prelude.{◌≡◌, ℕ, ◌<◌, ◌==◌, ◌&&◌, Bool, true, false, List, Option, Some, None, slice_index_or}
 use Rattle.axis_sets.specs.Sets.{has}
 use Rattle.axis_sets.specs.declared.limits.TheConstants.{MARK_LIMIT}
-use Rattle.step_deeds.specs.declared.deed.Deed.{Deed}
-use Rattle.step_deeds.specs.declared.deed.Departure.{Departure}
+use Rattle.step_deeds.specs.declared.deed.StepEvents.{StepEvents}
+use Rattle.step_deeds.specs.declared.deed.Wakeup.{Wakeup}
 use Rattle.step_deeds.specs.declared.deed.Hold.{Hold}
 use Rattle.step_deeds.specs.declared.deed.Hold.TheVariants.{Marks, Ends, Axes}
-use Rattle.step_deeds.specs.declared.deed.HoldAtLine.{HoldAtLine}
+use Rattle.step_deeds.specs.declared.deed.WaitAt.{WaitAt}
 use Rattle.step_deeds.specs.declared.named.NamedMarks.{NamedMarks}
 
 -- how a channel goes on in a step, and whether it does
@@ -14,14 +14,14 @@ abbrev pub is_given : {A : Type 0} → Option A → Bool
 is_given (Some x) = true
 is_given None = false
 
-abbrev pub departure_of : Deed → ℕ → Option Departure
+abbrev pub departure_of : StepEvents → ℕ → Option Wakeup
 departure_of deed c = slice_index_or deed.goes c None
 
-abbrev pub goes_in : Deed → ℕ → Bool
+abbrev pub goes_in : StepEvents → ℕ → Bool
 goes_in deed c = is_given (departure_of deed c)
 
 -- nothing of the step may be in a race: no wait begins, no mark is lowered, no channel is named, nobody goes on
-pub record IsTraceless (deed : Deed) : Type 0 where
+pub record IsTraceless (deed : StepEvents) : Type 0 where
   pub begins : deed.begins ≡ None
   pub lowers : (m : ℕ) → has deed.lowers m ≡ false
   pub touches : (c : ℕ) → has deed.touches c ≡ false
@@ -33,11 +33,11 @@ HoldOfMark (Marks m named) = m < MARK_LIMIT
 HoldOfMark (Ends named) = Unit {0}
 HoldOfMark (Axes axes) = Unit {0}
 
-abbrev pub HoldAtLineOfMark : Option HoldAtLine → Type 0
+abbrev pub HoldAtLineOfMark : Option WaitAt → Type 0
 HoldAtLineOfMark (Some held) = HoldOfMark held.hold
 HoldAtLineOfMark None = Unit {0}
 
-abbrev pub DepartsFromMark : Option Departure → Type 0
+abbrev pub DepartsFromMark : Option Wakeup → Type 0
 DepartsFromMark (Some gone) = HoldAtLineOfMark gone.held
 DepartsFromMark None = Unit {0}
 
@@ -47,11 +47,11 @@ BeginsAtMark (Some hold) = HoldOfMark hold
 BeginsAtMark None = Unit {0}
 
 -- the line of a hold that ends, 0 at a start
-abbrev pub line_of_held : Option HoldAtLine → ℕ
+abbrev pub line_of_held : Option WaitAt → ℕ
 line_of_held (Some held) = held.line
 line_of_held None = 0
 
-abbrev pub line_of : Option Departure → ℕ
+abbrev pub line_of : Option Wakeup → ℕ
 line_of (Some gone) = line_of_held gone.held
 line_of None = 0
 
@@ -61,7 +61,7 @@ lowers_in (Marks n named) m = m == n
 lowers_in (Ends named) m = false
 lowers_in (Axes axes) m = false
 
-abbrev pub lowers_at : Option HoldAtLine → ℕ → Bool
+abbrev pub lowers_at : Option WaitAt → ℕ → Bool
 lowers_at (Some held) m = lowers_in held.hold m
 lowers_at None m = false
 
@@ -71,7 +71,7 @@ names_in (Marks n named) m c = (n == m) && has named c
 names_in (Ends named) m c = false
 names_in (Axes axes) m c = false
 
-abbrev pub names_at : Option HoldAtLine → ℕ → ℕ → Bool
+abbrev pub names_at : Option WaitAt → ℕ → ℕ → Bool
 names_at (Some held) m c = names_in held.hold m c
 names_at None m c = false
 
@@ -81,7 +81,7 @@ is_axes (Axes axes) = true
 is_axes (Marks m named) = false
 is_axes (Ends named) = false
 
-abbrev pub is_at_axes : Option HoldAtLine → Bool
+abbrev pub is_at_axes : Option WaitAt → Bool
 is_at_axes (Some held) = is_axes held.hold
 is_at_axes None = false
 
@@ -115,14 +115,14 @@ are_named (Some one) (Some two) a b = (one.number == two.number) && (has one.nam
 are_named (Some one) None a b = false
 are_named None two a b = false
 
-abbrev pub marks_in : Option HoldAtLine → Option NamedMarks
+abbrev pub marks_in : Option WaitAt → Option NamedMarks
 marks_in (Some held) = marks_of_hold held.hold
 marks_in None = None
 
-abbrev pub named_marks : Option Departure → Option NamedMarks
+abbrev pub named_marks : Option Wakeup → Option NamedMarks
 named_marks (Some gone) = marks_in gone.held
 named_marks None = None
 
 -- the channels a and b of those that go on
-abbrev pub are_partners : List (Option Departure) → ℕ → ℕ → Bool
+abbrev pub are_partners : List (Option Wakeup) → ℕ → ℕ → Bool
 are_partners goes a b = are_named (named_marks (slice_index_or goes a None)) (named_marks (slice_index_or goes b None)) a b

@@ -20,7 +20,7 @@ pub enum Hold {
 
 /// A hold and the line of its block.
 #[derive(Clone, Copy)]
-pub struct HoldAtLine {
+pub struct WaitAt {
     /// At what.
     pub hold: Hold,
     /// The line.
@@ -29,16 +29,16 @@ pub struct HoldAtLine {
 
 /// The end of a hold, or a start.
 #[derive(Clone, Copy)]
-pub struct Departure {
+pub struct Wakeup {
     /// The hold that ends; none at a start.
-    pub held: Option<HoldAtLine>,
+    pub held: Option<WaitAt>,
     /// The axes that the channel took.
     pub took: AxisSet,
 }
 
 /// What happens in one step.
 #[derive(Clone, Copy)]
-pub struct Deed {
+pub struct StepEvents {
     /// The channel that acts.
     pub channel: ChannelId,
     /// The line of its block.
@@ -58,14 +58,14 @@ pub struct Deed {
     /// The hold that begins.
     pub begins: Option<Hold>,
     /// By channel: its start or the end of its hold in this step.
-    pub goes: [Option<Departure>; CHANNEL_PLACES],
+    pub goes: [Option<Wakeup>; CHANNEL_PLACES],
     /// By channel: those that go with one number go as one event.
     pub group: [u8; CHANNEL_PLACES],
 }
 
-impl Deed {
+impl StepEvents {
     /// Nothing, of the first channel at no line: a place for what happens.
-    pub fn none() -> Deed
+    pub fn none() -> StepEvents
         ensures channel { result.channel ≡ 1 }
         ensures line { result.line ≡ 0 }
         ensures marks { IsEmpty result.raises × IsEmpty result.lowers }
@@ -76,7 +76,7 @@ impl Deed {
         ensures group { result.group ≡ replicate CHANNEL_PLACES 0 }
         ensures nobody { (c : ℕ) → goes_in result c ≡ false }
     {
-        Deed {
+        StepEvents {
             channel: ChannelId::default(),
             line: 0,
             raises: MarkSet::empty(),

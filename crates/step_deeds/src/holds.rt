@@ -5,7 +5,7 @@ ghost use Rattle.axis_sets.specs.declared.limits.TheConstants.{CHANNEL_PLACES};
 ghost use Rattle.std.specs.Prelude.{◌≡◌, ℕ, ◌&&◌, ◌≤◌, ◌<◌, ◌↔◌, IsTrue, false, not, is_some, length, None, slice_index_or};
 ghost use Rattle.step_deeds.specs.Holds.{HoldAtLineOfMark, are_partners, asks_begun, asks_of_hold, is_at_axes, is_given, line_of_held, lowers_at, marks_begun, marks_in, marks_of_hold, named_marks};
 
-use crate::deed::{Departure, Hold, HoldAtLine};
+use crate::deed::{Hold, WaitAt, Wakeup};
 use crate::named::NamedMarks;
 use axis_sets::{AXIS_LIMIT, AxisId, AxisSet, CHANNEL_PLACES, ChannelId, MarkSet, Positions};
 
@@ -55,7 +55,7 @@ pub fn axes_begun(begins: &Option<Hold>) -> AxisSet
 }
 
 /// The line of a hold; 0 at a start.
-pub fn line_of(held: &Option<HoldAtLine>) -> u32
+pub fn line_of(held: &Option<WaitAt>) -> u32
     ensures { result ≡ line_of_held held.now }
 {
     match held {
@@ -65,7 +65,7 @@ pub fn line_of(held: &Option<HoldAtLine>) -> u32
 }
 
 /// The marks that the end of a hold lowers.
-pub fn marks_lowered(held: &Option<HoldAtLine>) -> MarkSet
+pub fn marks_lowered(held: &Option<WaitAt>) -> MarkSet
     requires { HoldAtLineOfMark held.now }
     ensures { (m : ℕ) → has result m ≡ lowers_at held.now m }
 {
@@ -80,7 +80,7 @@ pub fn marks_lowered(held: &Option<HoldAtLine>) -> MarkSet
 }
 
 /// The marks that the end of a hold needed.
-pub fn marks_needed(held: &Option<HoldAtLine>) -> Option<NamedMarks>
+pub fn marks_needed(held: &Option<WaitAt>) -> Option<NamedMarks>
     ensures { result ≡ marks_in held.now }
 {
     match held {
@@ -90,7 +90,7 @@ pub fn marks_needed(held: &Option<HoldAtLine>) -> Option<NamedMarks>
 }
 
 /// The marks for which one that goes on waited.
-pub fn marks_of(gone: &Option<Departure>) -> Option<NamedMarks>
+pub fn marks_of(gone: &Option<Wakeup>) -> Option<NamedMarks>
     ensures { result ≡ named_marks gone.now }
 {
     match gone {
@@ -100,7 +100,7 @@ pub fn marks_of(gone: &Option<Departure>) -> Option<NamedMarks>
 }
 
 /// Whether two channels go on and name each other at one mark number.
-pub fn are_partners_at(goes: &[Option<Departure>; CHANNEL_PLACES], a: u8, b: u8) -> bool
+pub fn are_partners_at(goes: &[Option<Wakeup>; CHANNEL_PLACES], a: u8, b: u8) -> bool
     requires first { 1 ≤ a }
     requires second { 1 ≤ b }
     requires first_below { a < CHANNEL_PLACES }
@@ -135,7 +135,7 @@ pub fn axes_with_position(at: &Positions) -> AxisSet
 }
 
 /// The axes that a channel took which waited so.
-pub fn took_of(held: &Option<HoldAtLine>, at: &Positions) -> AxisSet
+pub fn took_of(held: &Option<WaitAt>, at: &Positions) -> AxisSet
     ensures { (x : ℕ) → has result x ≡ (is_at_axes held.now && is_some (position_of at.now x)) }
 {
     match held {
@@ -149,7 +149,7 @@ pub fn took_of(held: &Option<HoldAtLine>, at: &Positions) -> AxisSet
 }
 
 /// The marks without that for which a channel waited.
-pub fn marks_left(marks: MarkSet, held: &Option<HoldAtLine>) -> MarkSet
+pub fn marks_left(marks: MarkSet, held: &Option<WaitAt>) -> MarkSet
     ensures { (m : ℕ) → has result m ≡ (has marks m && not (lowers_at held.now m)) }
 {
     match held {
@@ -163,7 +163,7 @@ pub fn marks_left(marks: MarkSet, held: &Option<HoldAtLine>) -> MarkSet
 }
 
 /// Whether nobody goes.
-pub fn is_nobody(gone: &[Option<Departure>; CHANNEL_PLACES]) -> bool
+pub fn is_nobody(gone: &[Option<Wakeup>; CHANNEL_PLACES]) -> bool
     ensures { IsTrue result ↔ ((c : ℕ) → is_given (slice_index_or gone.now c None) ≡ false) }
 {
     for c in 0..CHANNEL_PLACES {
@@ -175,7 +175,7 @@ pub fn is_nobody(gone: &[Option<Departure>; CHANNEL_PLACES]) -> bool
 }
 
 /// Lets nobody go. A place where nobody does is not written.
-pub fn clear_goes(gone: &mut [Option<Departure>; CHANNEL_PLACES])
+pub fn clear_goes(gone: &mut [Option<Wakeup>; CHANNEL_PLACES])
     ensures none { (c : ℕ) → slice_index_or gone.new c None ≡ None }
     ensures size { length gone.new ≡ CHANNEL_PLACES }
 {
@@ -187,7 +187,7 @@ pub fn clear_goes(gone: &mut [Option<Departure>; CHANNEL_PLACES])
 }
 
 /// By channel: whether it goes.
-pub fn goers(gone: &[Option<Departure>; CHANNEL_PLACES]) -> [bool; CHANNEL_PLACES]
+pub fn goers(gone: &[Option<Wakeup>; CHANNEL_PLACES]) -> [bool; CHANNEL_PLACES]
     ensures members { (c : ℕ) → has result c ≡ is_given (slice_index_or gone.now c None) }
     ensures size { length result ≡ CHANNEL_PLACES }
 {

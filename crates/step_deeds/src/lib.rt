@@ -6,7 +6,7 @@ mod deed;
 mod holds;
 mod named;
 
-pub use deed::{Deed, Departure, Hold, HoldAtLine};
+pub use deed::{Hold, StepEvents, WaitAt, Wakeup};
 pub use holds::{
     are_partners_at, axes_begun, axes_of_hold, axes_with_position, clear_goes, goers, is_nobody,
     line_of, marks_begun, marks_left, marks_lowered, marks_needed, marks_of, marks_of_hold,

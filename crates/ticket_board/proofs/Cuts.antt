@@ -7,7 +7,7 @@ use Rattle.atomic_table.proofs.Lists.{at_snoc, set_else, at_longer}
 use Rattle.coord_core.specs.Histories.{History}
 use Rattle.coord_core.specs.declared.locked.Locked.{Locked}
 use Rattle.sync_types.specs.Views.{StartView}
-use Rattle.ticket_board.specs.declared.rule.Part.{Part}
+use Rattle.ticket_board.specs.declared.rule.ChannelPart.{ChannelPart}
 use Rattle.ticket_board.specs.declared.rule.View.{View}
 use Rattle.ticket_board.specs.declared.rule.Stage.TheVariants.{Idle}
 use Rattle.ticket_board.specs.Rule.{Every, ticket_in, ticket_count, tickets_of, part_count, one_if, parts_for, parts_of_channel, marks_for, marks_of, Fits, Stands, Knows, HomeIs, AreApart, IsKept}
@@ -26,28 +26,28 @@ apart_more vs w idle apart i j n v u a b t r = ⊎_elim
     (λ (p : w ≡ v). absurd (some-ne-none n (sym t ∙ (ap (λ (z : View). ticket_in z.stage) (sym p) ∙ ap ticket_in idle))))
     (at_snoc vs w v i a)
 
-cut_lengths : (ps : List Part) → length (drop 1 ps) + length (take 1 ps) ≡ length ps
+cut_lengths : (ps : List ChannelPart) → length (drop 1 ps) + length (take 1 ps) ≡ length ps
 cut_lengths [] = refl
 cut_lengths (p ∷ ps) = omega arith
 
-cut_times : (c : ℕ) (ps : List Part) → parts_for c (drop 1 ps) + parts_for c (take 1 ps) ≡ parts_for c ps
+cut_times : (c : ℕ) (ps : List ChannelPart) → parts_for c (drop 1 ps) + parts_for c (take 1 ps) ≡ parts_for c ps
 cut_times c [] = refl
 cut_times c (p ∷ ps) = omega arith
 
-cut_marks : (ps : List Part) → marks_for (drop 1 ps) + marks_for (take 1 ps) ≡ marks_for ps
+cut_marks : (ps : List ChannelPart) → marks_for (drop 1 ps) + marks_for (take 1 ps) ≡ marks_for ps
 cut_marks [] = refl
 cut_marks (p ∷ ps) = omega arith
 
-every_drop : (P : Part → Type 0) (ps : List Part) → Every P ps → Every P (drop 1 ps)
+every_drop : (P : ChannelPart → Type 0) (ps : List ChannelPart) → Every P ps → Every P (drop 1 ps)
 every_drop P [] e = tt
 every_drop P (p ∷ ps) e = e.1
 
-every_take : (P : Part → Type 0) (ps : List Part) → Every P ps → Every P (take 1 ps)
+every_take : (P : ChannelPart → Type 0) (ps : List ChannelPart) → Every P ps → Every P (take 1 ps)
 every_take P [] e = tt
 every_take P (p ∷ ps) e = (e.0, tt)
 
-starts : (n a b : StartView) (ps qs : List Part) → (0 < length ps → a ≡ n) → (0 < length qs → b ≡ n) → 0 < length (qs ++ ps) → start_with a ps b ≡ n
-starts n a b [] qs f g h = let e = length-append {A = Part} qs [] in g (omega (arith, e, h))
+starts : (n a b : StartView) (ps qs : List ChannelPart) → (0 < length ps → a ≡ n) → (0 < length qs → b ≡ n) → 0 < length (qs ++ ps) → start_with a ps b ≡ n
+starts n a b [] qs f g h = let e = length-append {A = ChannelPart} qs [] in g (omega (arith, e, h))
 starts n a b (p ∷ ps) qs f g h = f (omega arith)
 
 module _ (key : StartView) where
@@ -106,8 +106,8 @@ module _ (key : StartView) where
         counted = k.counted ∙ ap (λ (x : ℕ). k.served + x) (sym (total_glue tickets_of s.views id other v w both spent_view at there_ (omega (arith, none_busy, none_busy'))));
         seats = total_glue part_count s.views id other v w both spent_view at there_ (omega (arith, lengths)) ∙ k.seats;
         few = k.few;
-        lone = λ c. subst (λ (y : ℕ). y ≤ 1) (sym (total_glue (parts_of_channel c) s.views id other v w both spent_view at there_ (let e = total_append (λ (p : Part). one_if (p.channel == c)) w.parts v.parts in omega (arith, e)))) (k.lone c);
-        marked = total_glue marks_of s.views id other v w both spent_view at there_ (let e = total_append (λ (p : Part). one_if p.shut) w.parts v.parts in omega (arith, e)) ∙ k.marked;
+        lone = λ c. subst (λ (y : ℕ). y ≤ 1) (sym (total_glue (parts_of_channel c) s.views id other v w both spent_view at there_ (let e = total_append (λ (p : ChannelPart). one_if (p.channel == c)) w.parts v.parts in omega (arith, e)))) (k.lone c);
+        marked = total_glue marks_of s.views id other v w both spent_view at there_ (let e = total_append (λ (p : ChannelPart). one_if p.shut) w.parts v.parts in omega (arith, e)) ∙ k.marked;
       }
 
   -- a seat with no part

@@ -10,7 +10,7 @@ use Rattle.coord_core.specs.Histories.{History, history_of}
 use Rattle.coord_core.specs.declared.locked.Locked.{Locked}
 use Rattle.sync_types.specs.Views.{StartView}
 use Rattle.ticket_board.specs.Passes.{channels_of}
-use Rattle.ticket_board.specs.declared.rule.Part.{Part}
+use Rattle.ticket_board.specs.declared.rule.ChannelPart.{ChannelPart}
 use Rattle.ticket_board.specs.declared.rule.View.{View}
 use Rattle.ticket_board.specs.declared.rule.Stage.TheVariants.{Idle}
 use Rattle.ticket_board.specs.Rule.{Every, ticket_in, ticket_count, tickets_of, part_count, one_if, marks_for, marks_of, Fits, Knows, HomeIs, IsKept, fresh_part, first_view}
@@ -47,7 +47,7 @@ opens key l start_is empty unshut = let v : View = first_view key in let long = 
   counted = refl;
   seats = omega (arith, long);
   few = few_channels key;
-  lone = λ c. let same = total_map (λ (p : Part). one_if (p.channel == c)) (λ (x : ℕ). one_if (x == c)) fresh_part (channels_of key) (λ x. refl) in let most = each_once key c in omega (arith, same, most);
+  lone = λ c. let same = total_map (λ (p : ChannelPart). one_if (p.channel == c)) (λ (x : ℕ). one_if (x == c)) fresh_part (channels_of key) (λ x. refl) in let most = each_once key c in omega (arith, same, most);
   marked = let none = fresh_marks (channels_of key) in omega (arith, none);
 }
 
@@ -63,7 +63,7 @@ pub at_most_one : (b : Bool) → one_if b ≤ 1
 at_most_one true = omega arith
 at_most_one false = omega arith
 
-marks_few : (ps : List Part) → marks_for ps ≤ length ps
+marks_few : (ps : List ChannelPart) → marks_for ps ≤ length ps
 marks_few [] = omega arith
 marks_few (p ∷ ps) = let a = at_most_one p.shut in let b = marks_few ps in omega (arith, a, b)
 

@@ -9,7 +9,7 @@ use Rattle.sync_types.specs.Views.{EntryView, StartView}
 use Rattle.ticket_board.specs.Passes.{no_history}
 use Rattle.ticket_board.specs.Rule.{AreLawful, Fits, fresh_part, length_with_mark, mark_length, one_if}
 use Rattle.ticket_board.specs.Steps.{Goes, with_count, with_seen}
-use Rattle.ticket_board.specs.declared.rule.Part.{Part}
+use Rattle.ticket_board.specs.declared.rule.ChannelPart.{ChannelPart}
 
 abbrev pub history : List EntryView → Bool → History
 history es b = record { entries = es; closed = b }
@@ -21,7 +21,7 @@ own_append c xs ys = filter-append (λ (e : EntryView). e.channel == c) xs ys
 pub own_seen : (c : ℕ) (seen log : History) → SeesOn c seen log → own_entries c log.entries ≡ own_entries c seen.entries
 own_seen c seen log s = ap (own_entries c) s.begins ∙ (own_append c seen.entries s.more ∙ (ap (λ (r : List EntryView). own_entries c seen.entries ++ r) s.others ∙ append-nil (own_entries c seen.entries)))
 
-pub own_whole : (start : StartView) (log : History) (p : Part) → Fits start log p → own_entries p.channel log.entries ≡ p.mine
+pub own_whole : (start : StartView) (log : History) (p : ChannelPart) → Fits start log p → own_entries p.channel log.entries ≡ p.mine
 own_whole start log p f = own_seen p.channel p.seen log f.sees ∙ f.mine
 
 pub differ : false ≡ true → ⊥
@@ -30,10 +30,10 @@ differ e = search rules
 pub fits_fresh : (start : StartView) (log : History) (c : ℕ) → log ≡ no_history → Fits start log (fresh_part c)
 fits_fresh start log c is = record { lawful = tt; sees = record { more = []; begins = ap (λ (h : History). h.entries) is; others = refl; closed = λ e. is }; mine = refl; shut = λ on. absurd (differ on) }
 
-pub fits_seen : (start : StartView) (log : History) (p : Part) → AreLawful start log.entries → Fits start log p → Fits start log (with_seen log p)
+pub fits_seen : (start : StartView) (log : History) (p : ChannelPart) → AreLawful start log.entries → Fits start log p → Fits start log (with_seen log p)
 fits_seen start log p lawful f = record { lawful = lawful; sees = sees_itself p.channel log; mine = own_whole start log p f; shut = λ on. ap (λ (h : History). h.closed) (f.sees.closed (f.shut on)) ∙ f.shut on }
 
-pub fits_counted : (start : StartView) (log : History) (p : Part) → AreLawful start log.entries → ((with_count log p).shut ≡ true → log.closed ≡ true) → Fits start log (with_count log p)
+pub fits_counted : (start : StartView) (log : History) (p : ChannelPart) → AreLawful start log.entries → ((with_count log p).shut ≡ true → log.closed ≡ true) → Fits start log (with_count log p)
 fits_counted start log p lawful shut = record { lawful = lawful; sees = sees_itself p.channel log; mine = refl; shut = shut }
 
 none_in : (c : ℕ) (e : EntryView) (b : Bool) → (e.channel == c) ≡ b → b ≡ false → own_entries c (e ∷ []) ≡ []
@@ -41,7 +41,7 @@ none_in c e true is f = absurd (differ (sym f))
 none_in c e false is f = rw is refl
 
 -- an entry of another channel
-pub fits_more : (start : StartView) (es : List EntryView) (e : EntryView) (p : Part) → e.channel ≢ p.channel → Fits start (history es false) p → Fits start (history (es ++ e ∷ []) false) p
+pub fits_more : (start : StartView) (es : List EntryView) (e : EntryView) (p : ChannelPart) → e.channel ≢ p.channel → Fits start (history es false) p → Fits start (history (es ++ e ∷ []) false) p
 fits_more start es e p other f = record {
   lawful = f.lawful;
   sees = record {
@@ -54,7 +54,7 @@ fits_more start es e p other f = record {
   shut = f.shut;
 }
 
-pub fits_shut : (start : StartView) (es : List EntryView) (p : Part) → Fits start (history es false) p → Fits start (history es true) p
+pub fits_shut : (start : StartView) (es : List EntryView) (p : ChannelPart) → Fits start (history es false) p → Fits start (history es true) p
 fits_shut start es p f = record {
   lawful = f.lawful;
   sees = record {
@@ -68,19 +68,19 @@ fits_shut start es p f = record {
 }
 
 -- what another channel has seen stays a beginning with all of its entries, where the history goes on from p
-pub goes_fits : (start : StartView) (p q : Part) (after : History) (k : ℕ) → Goes start p after k → p.channel ≢ q.channel → Fits start p.seen q → Fits start after q
+pub goes_fits : (start : StartView) (p q : ChannelPart) (after : History) (k : ℕ) → Goes start p after k → p.channel ≢ q.channel → Fits start p.seen q → Fits start after q
 goes_fits start p q after k (inl same) other f = subst (λ (h : History). Fits start h q) (sym same.0) f
 goes_fits start p q after k (inr (unshut, one, inl made)) other f = let e : EntryView = made.0 in
     subst (λ (h : History). Fits start h q) (sym made.3) (fits_more start p.seen.entries e q (λ is. other (sym made.1 ∙ is)) (subst (λ (b : Bool). Fits start (history p.seen.entries b) q) unshut f))
 goes_fits start p q after k (inr (unshut, one, inr is)) other f =
     subst (λ (h : History). Fits start h q) (sym is) (fits_shut start p.seen.entries q (subst (λ (b : Bool). Fits start (history p.seen.entries b) q) unshut f))
 
-pub goes_lawful : (start : StartView) (p : Part) (after : History) (k : ℕ) → Goes start p after k → AreLawful start p.seen.entries → AreLawful start after.entries
+pub goes_lawful : (start : StartView) (p : ChannelPart) (after : History) (k : ℕ) → Goes start p after k → AreLawful start p.seen.entries → AreLawful start after.entries
 goes_lawful start p after k (inl same) lawful = subst (λ (h : History). AreLawful start h.entries) (sym same.0) lawful
 goes_lawful start p after k (inr (unshut, one, inl made)) lawful = subst (λ (h : History). AreLawful start h.entries) (sym made.3) made.2
 goes_lawful start p after k (inr (unshut, one, inr is)) lawful = subst (λ (h : History). AreLawful start h.entries) (sym is) lawful
 
-pub goes_length : (start : StartView) (p : Part) (after : History) (k : ℕ) → Goes start p after k → length_with_mark p.seen + k ≡ length_with_mark after
+pub goes_length : (start : StartView) (p : ChannelPart) (after : History) (k : ℕ) → Goes start p after k → length_with_mark p.seen + k ≡ length_with_mark after
 goes_length start p after k (inl same) = let a = ap length_with_mark same.0 in let z = same.1 in omega (arith, a, z)
 goes_length start p after k (inr (unshut, one, inl made)) = let e : EntryView = made.0 in let a = ap length_with_mark made.3 in let m : mark_length p.seen.closed ≡ 0 = ap mark_length unshut in let long = length-append p.seen.entries (e ∷ []) in omega (arith, a, m, one, long)
 goes_length start p after k (inr (unshut, one, inr is)) = let a = ap length_with_mark is in let m : mark_length p.seen.closed ≡ 0 = ap mark_length unshut in omega (arith, a, m, one)
@@ -88,7 +88,7 @@ goes_length start p after k (inr (unshut, one, inr is)) = let a = ap length_with
 -- ---- the closing mark
 
 -- a closed history goes on as it is
-pub goes_closed : (start : StartView) (p : Part) (after : History) (k : ℕ) → Goes start p after k → p.seen.closed ≡ true → after.closed ≡ true
+pub goes_closed : (start : StartView) (p : ChannelPart) (after : History) (k : ℕ) → Goes start p after k → p.seen.closed ≡ true → after.closed ≡ true
 goes_closed start p after k (inl same) on = ap (λ (h : History). h.closed) same.0 ∙ on
 goes_closed start p after k (inr (unshut, one, made)) on = absurd (differ (sym unshut ∙ on))
 
@@ -98,7 +98,7 @@ mark_stays true before after earlier on = earlier refl
 mark_stays false true after earlier on = absurd (differ on)
 mark_stays false false after earlier on = on
 
-pub counted_mark : (start : StartView) (p : Part) (after : History) (k : ℕ) → Goes start p after k → (p.shut ≡ true → p.seen.closed ≡ true) → (with_count after p).shut ≡ true → after.closed ≡ true
+pub counted_mark : (start : StartView) (p : ChannelPart) (after : History) (k : ℕ) → Goes start p after k → (p.shut ≡ true → p.seen.closed ≡ true) → (with_count after p).shut ≡ true → after.closed ≡ true
 counted_mark start p after k goes seen = mark_stays p.shut p.seen.closed after.closed (λ on. goes_closed start p after k goes (seen on))
 
 -- one mark more was put exactly where the history has it and had it not
@@ -112,6 +112,6 @@ marks_grow true false false seen stays = absurd (differ (seen refl))
 marks_grow false false true seen stays = refl
 marks_grow false false false seen stays = refl
 
-pub goes_marks : (start : StartView) (p : Part) (after : History) (k : ℕ) → Goes start p after k → (p.shut ≡ true → p.seen.closed ≡ true)
+pub goes_marks : (start : StartView) (p : ChannelPart) (after : History) (k : ℕ) → Goes start p after k → (p.shut ≡ true → p.seen.closed ≡ true)
     → one_if p.seen.closed + one_if (with_count after p).shut ≡ one_if after.closed + one_if p.shut
 goes_marks start p after k goes seen = marks_grow p.shut p.seen.closed after.closed seen (goes_closed start p after k goes)

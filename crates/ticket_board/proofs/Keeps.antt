@@ -11,7 +11,7 @@ use Rattle.atomic_table.proofs.Lists.{at_set, set_again, set_else, one_turn}
 use Rattle.coord_core.specs.Histories.{History, history_of}
 use Rattle.coord_core.specs.declared.locked.Locked.{Locked}
 use Rattle.sync_types.specs.Views.{StartView}
-use Rattle.ticket_board.specs.declared.rule.Part.{Part}
+use Rattle.ticket_board.specs.declared.rule.ChannelPart.{ChannelPart}
 use Rattle.ticket_board.specs.declared.rule.View.{View}
 use Rattle.ticket_board.specs.declared.rule.Stage.{Stage}
 use Rattle.ticket_board.specs.declared.rule.Stage.TheVariants.{Idle, Waiting, Holding}
@@ -49,13 +49,13 @@ apart_set vs me w ap_ clash i j n v u a b t r = ⊎_elim
     (at_set vs me j w u b))
     (at_set vs me i w v a)
 
-ticket_below : (log : History) (drawn served holder : ℕ) (out : Bool) (j : ℕ) (ps : List Part) (st : Stage) (n : ℕ) → Stands log drawn served holder out j ps st → ticket_in st ≡ some n → (served ≤ n) × (n < drawn)
+ticket_below : (log : History) (drawn served holder : ℕ) (out : Bool) (j : ℕ) (ps : List ChannelPart) (st : Stage) (n : ℕ) → Stands log drawn served holder out j ps st → ticket_in st ≡ some n → (served ≤ n) × (n < drawn)
 ticket_below log drawn served holder out j ps Idle n k t = absurd (some-ne-none n (sym t))
 ticket_below log drawn served holder out j ps (Waiting m) n k t = let e = some-injective m n t in let a = k.0 in let b = k.1 in (omega arith, omega arith)
 ticket_below log drawn served holder out j ps (Holding m) n k t = let e = some-injective m n t in let a = k.0 in let b = k.1 in (omega arith, omega arith)
 
 -- one ticket more is out
-stands_drawn : (log : History) (drawn served holder : ℕ) (out : Bool) (j : ℕ) (ps : List Part) (st : Stage) → Stands log drawn served holder out j ps st → Stands log (drawn + 1) served holder out j ps st
+stands_drawn : (log : History) (drawn served holder : ℕ) (out : Bool) (j : ℕ) (ps : List ChannelPart) (st : Stage) → Stands log drawn served holder out j ps st → Stands log (drawn + 1) served holder out j ps st
 stands_drawn log drawn served holder out j ps Idle k = tt
 stands_drawn log drawn served holder out j ps (Waiting m) k = let b = k.1 in (k.0, omega arith)
 stands_drawn log drawn served holder out j ps (Holding m) k = let b = k.1 in (k.0, omega arith, k.2, k.3, k.4)
@@ -123,7 +123,7 @@ module _ (key : StartView) where
   taken_home start log holder vs true homes is h = absurd (differ (sym is))
 
   -- the slot goes out, where no seat held it
-  stands_taken : (log : History) (drawn served holder me : ℕ) (out : Bool) (j : ℕ) (ps : List Part) (st : Stage) → out ≡ false → Stands log drawn served holder out j ps st → Stands log drawn served me true j ps st
+  stands_taken : (log : History) (drawn served holder me : ℕ) (out : Bool) (j : ℕ) (ps : List ChannelPart) (st : Stage) → out ≡ false → Stands log drawn served holder out j ps st → Stands log drawn served me true j ps st
   stands_taken log drawn served holder me out j ps Idle is k = tt
   stands_taken log drawn served holder me out j ps (Waiting m) is k = k
   stands_taken log drawn served holder me out j ps (Holding m) is k = absurd (differ (sym is ∙ k.2))
@@ -159,15 +159,15 @@ module _ (key : StartView) where
                 start_is = λ _. mine.start_is some_part;
                 fits = every_map (Fits key k.log) (Fits key k.log) (with_seen (history_of l)) v.parts (λ p f. subst (λ (h : History). Fits key k.log (with_seen h p)) (sym log_is) (fits_seen key k.log p k.lawful f)) mine.fits;
                 room = omega arith;
-                stands = (now, place.1, refl, refl, every_map (Fits key k.log) (λ (p : Part). p.seen ≡ k.log) (with_seen (history_of l)) v.parts (λ p f. log_is) mine.fits);
+                stands = (now, place.1, refl, refl, every_map (Fits key k.log) (λ (p : ChannelPart). p.seen ≡ k.log) (with_seen (history_of l)) v.parts (λ p f. log_is) mine.fits);
               }
               (λ j d _ e. let old = k.each j d e in record { start_is = old.start_is; fits = old.fits; room = old.room; stands = stands_taken k.log k.drawn k.served k.holder id k.out j d.parts d.stage shut_ old.stands });
           apart = apart_set s.views id w k.apart (λ j m d other e t r. other (k.apart j id m d v e at t (ap ticket_in waits ∙ r)));
           counted = omega arith;
           seats = total_same part_count s.views id v w at many ∙ k.seats;
           few = k.few;
-          lone = λ c. subst (λ (x : ℕ). x ≤ 1) (sym (total_same (parts_of_channel c) s.views id v w at (total_map (λ (p : Part). one_if (p.channel == c)) (λ (p : Part). one_if (p.channel == c)) (with_seen (history_of l)) v.parts (λ p. refl)))) (k.lone c);
-          marked = total_same marks_of s.views id v w at (total_map (λ (p : Part). one_if p.shut) (λ (p : Part). one_if p.shut) (with_seen (history_of l)) v.parts (λ p. refl)) ∙ k.marked;
+          lone = λ c. subst (λ (x : ℕ). x ≤ 1) (sym (total_same (parts_of_channel c) s.views id v w at (total_map (λ (p : ChannelPart). one_if (p.channel == c)) (λ (p : ChannelPart). one_if (p.channel == c)) (with_seen (history_of l)) v.parts (λ p. refl)))) (k.lone c);
+          marked = total_same marks_of s.views id v w at (total_map (λ (p : ChannelPart). one_if p.shut) (λ (p : ChannelPart). one_if p.shut) (with_seen (history_of l)) v.parts (λ p. refl)) ∙ k.marked;
         },
         h.2 ∙ sym start_same,
         subst (λ (z : StartView × History). AreLawful z.0 z.1.entries) (λ i. (sym start_same i, sym log_is i)) k.lawful,
@@ -190,31 +190,31 @@ module _ (key : StartView) where
   out_home start log holder vs true homes is h = h.0
 
   -- no other seat holds the slot
-  stands_else : (log log' : History) (drawn served holder me : ℕ) (out : Bool) (j : ℕ) (ps : List Part) (st : Stage) → me ≡ holder → j ≢ me → Stands log drawn served holder out j ps st → Stands log' drawn served me true j ps st
+  stands_else : (log log' : History) (drawn served holder me : ℕ) (out : Bool) (j : ℕ) (ps : List ChannelPart) (st : Stage) → me ≡ holder → j ≢ me → Stands log drawn served holder out j ps st → Stands log' drawn served me true j ps st
   stands_else log log' drawn served holder me out j ps Idle is other k = tt
   stands_else log log' drawn served holder me out j ps (Waiting m) is other k = k
   stands_else log log' drawn served holder me out j ps (Holding m) is other k = absurd (other (k.3 ∙ sym is))
 
-  times_none : (c : ℕ) (ps : List Part) → parts_for c ps ≡ 0 → Every (λ (q : Part). c ≢ q.channel) ps
+  times_none : (c : ℕ) (ps : List ChannelPart) → parts_for c ps ≡ 0 → Every (λ (q : ChannelPart). c ≢ q.channel) ps
   times_none c [] none_of = tt
   times_none c (q ∷ ps) none_of = (λ is. let hit : one_if (q.channel == c) ≡ 1 = ap one_if (eq-eqb q.channel c (sym is)) in absurd (omega (arith, hit, none_of)), times_none c ps (omega arith))
 
   -- no other seat has a part of the channel c, where this one has
-  not_theirs : (s : St) (k : Rule s) (id j c : ℕ) (v d : View) → get_elem? s.views id ≡ some v → get_elem? s.views j ≡ some d → j ≢ id → parts_for c v.parts ≡ 1 → Every (λ (q : Part). c ≢ q.channel) d.parts
+  not_theirs : (s : St) (k : Rule s) (id j c : ℕ) (v d : View) → get_elem? s.views id ≡ some v → get_elem? s.views j ≡ some d → j ≢ id → parts_for c v.parts ≡ 1 → Every (λ (q : ChannelPart). c ≢ q.channel) d.parts
   not_theirs s k id j c v d at there other one = let two = total_two (parts_of_channel c) s.views id j v d other at there in let most = k.lone c in times_none c d.parts (omega (arith, two, most, one))
 
-  every_both : (P Q R : Part → Type 0) (l : List Part) → ((x : Part) → P x → Q x → R x) → Every P l → Every Q l → Every R l
+  every_both : (P Q R : ChannelPart → Type 0) (l : List ChannelPart) → ((x : ChannelPart) → P x → Q x → R x) → Every P l → Every Q l → Every R l
   every_both P Q R [] h a b = tt
   every_both P Q R (x ∷ xs) h a b = (h x a.0 b.0, every_both P Q R xs h a.1 b.1)
 
   -- kind 4
-  pub counts : (slots id : ℕ) (me : Mine) (n : ℕ) (p : Part) (after : History) (more : ℕ) → me.0.stage ≡ Holding n → me.0.parts ≡ p ∷ [] → Goes me.0.start p after more → length_with_mark p.seen + more < 18446744073709551616
+  pub counts : (slots id : ℕ) (me : Mine) (n : ℕ) (p : ChannelPart) (after : History) (more : ℕ) → me.0.stage ≡ Holding n → me.0.parts ≡ p ∷ [] → Goes me.0.start p after more → length_with_mark p.seen + more < 18446744073709551616
       → Allows Rule slots id me 2 (λ r. (r + more) % 18446744073709551616) (λ r m'. Counts after me m')
   counts slots id me n p after more holds_ parts_are goes fits_word s k _ at _ =
       let v : View = me.0 in let w : View = record { start = v.start; parts = map (with_count after) v.parts; stage = v.stage } in let mine = k.each id v at in
       let place = subst (Stands k.log k.drawn k.served k.holder k.out id v.parts) holds_ mine.stands in
-      let some_part : 0 < length v.parts = let e = ap (λ (ps : List Part). length ps) parts_are in omega (arith, e) in let start_same = mine.start_is some_part in
-      let seen : p.seen ≡ k.log = (subst (Every (λ (q : Part). q.seen ≡ k.log)) parts_are place.4).0 in
+      let some_part : 0 < length v.parts = let e = ap (λ (ps : List ChannelPart). length ps) parts_are in omega (arith, e) in let start_same = mine.start_is some_part in
+      let seen : p.seen ≡ k.log = (subst (Every (λ (q : ChannelPart). q.seen ≡ k.log)) parts_are place.4).0 in
       let goes' : Goes key p after more = subst (λ (x : StartView). Goes x p after more) start_same goes in
       let legal' : AreLawful key after.entries = goes_lawful key p after more goes' (subst (λ (h : History). AreLawful key h.entries) (sym seen) k.lawful) in
       let many : part_count w ≡ part_count v = length_map (with_count after) v.parts in
@@ -222,10 +222,10 @@ module _ (key : StartView) where
       let sum = total_set tickets_of s.views id v w at in let c = k.counted in let room = mine.room in
       let word : get_or s.words 2 0 ≡ length_with_mark k.log = ap (λ (ws : List ℕ). get_or ws 2 0) k.words in let grows = goes_length key p after more goes' in let same_extent = ap length_with_mark seen in
       let own : Fits key k.log p = (subst (Every (Fits key k.log)) parts_are mine.fits).0 in
-      let MarkStays : Part → Type 0 = λ q. (with_count after q).shut ≡ true → after.closed ≡ true in
+      let MarkStays : ChannelPart → Type 0 = λ q. (with_count after q).shut ≡ true → after.closed ≡ true in
       let one_mark = goes_marks key p after more goes' own.shut in
       let grown : one_if p.seen.closed + marks_for (map (with_count after) v.parts) ≡ one_if after.closed + marks_for v.parts =
-      subst (λ (ps : List Part). one_if p.seen.closed + marks_for (map (with_count after) ps) ≡ one_if after.closed + marks_for ps) (sym parts_are) (omega (arith, one_mark)) in
+      subst (λ (ps : List ChannelPart). one_if p.seen.closed + marks_for (map (with_count after) ps) ≡ one_if after.closed + marks_for ps) (sym parts_are) (omega (arith, one_mark)) in
       let new_word : (length_with_mark k.log + more) % 18446744073709551616 ≡ length_with_mark after = subst (λ (x : ℕ). (x + more) % 18446744073709551616 ≡ length_with_mark after) same_extent (mod-eq_of_lt fits_word ∙ grows) in (
         w,
         keeps,
@@ -250,12 +250,12 @@ module _ (key : StartView) where
                   place.1,
                   refl,
                   refl,
-                  every_map (λ (q : Part). Unit {0}) (λ (q : Part). q.seen ≡ after) (with_count after) v.parts (λ q _. refl) (every_always (λ (q : Part). Unit {0}) v.parts (λ q. tt)),
+                  every_map (λ (q : ChannelPart). Unit {0}) (λ (q : ChannelPart). q.seen ≡ after) (with_count after) v.parts (λ q _. refl) (every_always (λ (q : ChannelPart). Unit {0}) v.parts (λ q. tt)),
                 );
               }
               (λ j d other e. let old = k.each j d e in record {
                 start_is = old.start_is;
-                fits = every_both (Fits key k.log) (λ (q : Part). p.channel ≢ q.channel) (Fits key after) d.parts
+                fits = every_both (Fits key k.log) (λ (q : ChannelPart). p.channel ≢ q.channel) (Fits key after) d.parts
                     (λ q f ne. goes_fits key p q after more goes' ne (subst (λ (h : History). Fits key h q) (sym seen) f)) old.fits (not_theirs s k id j p.channel v d at e other one);
                 room = old.room;
                 stands = stands_else k.log after k.drawn k.served k.holder id k.out j d.parts d.stage place.3 other old.stands;
@@ -264,7 +264,7 @@ module _ (key : StartView) where
           counted = omega arith;
           seats = total_same part_count s.views id v w at many ∙ k.seats;
           few = k.few;
-          lone = λ x. subst (λ (y : ℕ). y ≤ 1) (sym (total_same (parts_of_channel x) s.views id v w at (total_map (λ (q : Part). one_if (q.channel == x)) (λ (q : Part). one_if (q.channel == x)) (with_count after) v.parts (λ q. refl)))) (k.lone x);
+          lone = λ x. subst (λ (y : ℕ). y ≤ 1) (sym (total_same (parts_of_channel x) s.views id v w at (total_map (λ (q : ChannelPart). one_if (q.channel == x)) (λ (q : ChannelPart). one_if (q.channel == x)) (with_count after) v.parts (λ q. refl)))) (k.lone x);
           marked = marks_after (total marks_of s.views) (total marks_of (set s.views id w)) (marks_of v) (marks_of w) (one_if p.seen.closed) (one_if after.closed)
               (total_set marks_of s.views id v w at) (k.marked ∙ ap (λ (h : History). one_if h.closed) (sym seen)) grown;
         },
@@ -272,20 +272,20 @@ module _ (key : StartView) where
       )
 
   -- the next ticket is served
-  stands_served : (log : History) (drawn served holder me : ℕ) (out : Bool) (j : ℕ) (ps : List Part) (st : Stage) → me ≡ holder → j ≢ me → (ticket_in st ≡ some served → ⊥) → Stands log drawn served holder out j ps st
+  stands_served : (log : History) (drawn served holder me : ℕ) (out : Bool) (j : ℕ) (ps : List ChannelPart) (st : Stage) → me ≡ holder → j ≢ me → (ticket_in st ≡ some served → ⊥) → Stands log drawn served holder out j ps st
       → Stands log drawn (served + 1) me false j ps st
   stands_served log drawn served holder me out j ps Idle is other not_me k = tt
   stands_served log drawn served holder me out j ps (Waiting m) is other not_me k = let ne : m ≢ served = λ e. not_me (ap some e) in let a = k.0 in (omega arith, k.1)
   stands_served log drawn served holder me out j ps (Holding m) is other not_me k = absurd (other (k.3 ∙ sym is))
 
   -- kind 6
-  pub serves : (slots id : ℕ) (me : Mine) (n : ℕ) (p : Part) (l : Locked) → me.0.stage ≡ Holding n → me.0.parts ≡ p ∷ [] → me.1 ≡ (0, Some l) ∷ [] → l.board.start ≡ me.0.start → p.seen ≡ history_of l
+  pub serves : (slots id : ℕ) (me : Mine) (n : ℕ) (p : ChannelPart) (l : Locked) → me.0.stage ≡ Holding n → me.0.parts ≡ p ∷ [] → me.1 ≡ (0, Some l) ∷ [] → l.board.start ≡ me.0.start → p.seen ≡ history_of l
       → Allows Rule slots id me 1 (λ r. (r + 1) % 18446744073709551616) (λ r m'. Serves me m')
   serves slots id me n p l holds_ parts_are slot_is start_is seen_is s k _ at _ =
       let v : View = me.0 in let w : View = at_stage v Idle in let mine = k.each id v at in
       let place = subst (Stands k.log k.drawn k.served k.holder k.out id v.parts) holds_ mine.stands in
-      let some_part : 0 < length v.parts = let e = ap (λ (ps : List Part). length ps) parts_are in omega (arith, e) in let start_same = mine.start_is some_part in
-      let seen : p.seen ≡ k.log = (subst (Every (λ (q : Part). q.seen ≡ k.log)) parts_are place.4).0 in
+      let some_part : 0 < length v.parts = let e = ap (λ (ps : List ChannelPart). length ps) parts_are in omega (arith, e) in let start_same = mine.start_is some_part in
+      let seen : p.seen ≡ k.log = (subst (Every (λ (q : ChannelPart). q.seen ≡ k.log)) parts_are place.4).0 in
       let sum = total_set tickets_of s.views id v w at in let was : tickets_of v ≡ 1 = ap ticket_count holds_ in let c = k.counted in
       let away = out_home key k.log k.holder s.views k.out s.homes place.2 k.home in (
         w,

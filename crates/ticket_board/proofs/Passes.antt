@@ -15,14 +15,14 @@ use Rattle.ticket_board.specs.Passes.{EndsFor, HasOneHistory, IsPassOf, TicketBo
 use Rattle.ticket_board.specs.Rule.{Every, Fits, IsKept, fresh_part, marks_for, one_if}
 use Rattle.ticket_board.specs.Steps.{Mine, only_first}
 use Rattle.ticket_board.specs.Turns.{IsPass, first_pass, part_in, part_of, pass_view}
-use Rattle.ticket_board.specs.declared.rule.Part.{Part}
+use Rattle.ticket_board.specs.declared.rule.ChannelPart.{ChannelPart}
 use Rattle.ticket_board.specs.declared.rule.Stage.TheVariants.{Idle}
 use Rattle.ticket_board.specs.declared.rule.View.{View}
 use lib.ListN.{get_elem?}
 use mathlib.Core.Option.{some, some-injective}
 
-pub fresh_is_pass : (t : TableId) (v : View) (c : ℕ) (ps : List Part) → v.parts ≡ fresh_part c ∷ ps → IsPass (only_first v, []) c × (pass_view t (only_first v, []) c ≡ first_pass t v.start c)
-fresh_is_pass t v c ps is = subst (λ (qs : List Part). IsPass (record { start = v.start; parts = take 1 qs; stage = Idle }, []) c × (pass_view t (record { start = v.start; parts = take 1 qs; stage = Idle }, []) c ≡ first_pass t v.start c)) (sym is)
+pub fresh_is_pass : (t : TableId) (v : View) (c : ℕ) (ps : List ChannelPart) → v.parts ≡ fresh_part c ∷ ps → IsPass (only_first v, []) c × (pass_view t (only_first v, []) c ≡ first_pass t v.start c)
+fresh_is_pass t v c ps is = subst (λ (qs : List ChannelPart). IsPass (record { start = v.start; parts = take 1 qs; stage = Idle }, []) c × (pass_view t (record { start = v.start; parts = take 1 qs; stage = Idle }, []) c ≡ first_pass t v.start c)) (sym is)
     ((refl, refl, refl, refl, tt, refl, λ on. absurd (differ on)), refl)
 
 pub part_is : (t : TableId) (m : Mine) (c : ℕ) → IsPass m c → m.0.parts ≡ part_in (pass_view t m c) ∷ []
@@ -176,10 +176,10 @@ pub finished : (key : StartView) (id : ℕ) (v : View) (ws : List ℕ) (xs : Lis
     → length ps ≡ length (channels_of key) → Final (Seen (IsKept key) id v) ws xs → get_elem? xs 0 ≡ some slot → HasEnded key ps slot
 finished key id v ws xs ps left done slot idle parts are none_left all final at =
     let same : ps ≡ done = are ∙ ap (λ (zs : List TicketPassView). zs ++ done) (nil_of left none_left) in
-    let long = length_map part_in done in let a = ap (λ (zs : List TicketPassView). length zs) same in let b = ap (λ (zs : List Part). length zs) parts in
+    let long = length_map part_in done in let a = ap (λ (zs : List TicketPassView). length zs) same in let b = ap (λ (zs : List ChannelPart). length zs) parts in
     let f = final_home key id v ws xs idle (omega (arith, long, a, b, all)) final in let l : Locked = f.0 in
     let ends : Every (EndsFor (history_of l)) ps = subst (Every (EndsFor (history_of l))) (sym same) (ends_for key l done (subst (Every (Fits key (history_of l))) parts f.3)) in
-    let marks : marks_for (map part_in ps) ≡ one_if l.closed = subst (λ (qs : List Part). marks_for qs ≡ one_if l.closed) (parts ∙ ap (map part_in) (sym same)) f.4 in
+    let marks : marks_for (map part_in ps) ≡ one_if l.closed = subst (λ (qs : List ChannelPart). marks_for qs ≡ one_if l.closed) (parts ∙ ap (map part_in) (sym same)) f.4 in
     let put : l.closed ≡ list_any has_put_mark ps = closed_as_put l.closed ps marks in record {
       locked = l;
       slot_is = some-injective slot (Some l) (sym at ∙ f.1);

@@ -20,7 +20,7 @@ use Rattle.ticket_board.specs.Passes.{AnEntry, Makes, NoEntry, PutsMark, is_no_m
 use Rattle.ticket_board.specs.Rule.{AreLawful, Every, Fits, length_with_mark}
 use Rattle.ticket_board.specs.Steps.{Goes, Mine, Reads, Takes, at_stage, awaited_ticket, puts_mark, with_count, with_seen}
 use Rattle.ticket_board.specs.Turns.{IsPass, count_at, part_of, pass_view, wants_memory}
-use Rattle.ticket_board.specs.declared.rule.Part.{Part}
+use Rattle.ticket_board.specs.declared.rule.ChannelPart.{ChannelPart}
 use Rattle.ticket_board.specs.declared.rule.Stage.{Stage}
 use Rattle.ticket_board.specs.declared.rule.Stage.TheVariants.{Holding, Idle, Waiting}
 
@@ -35,28 +35,28 @@ reads_miss m m' r t n waits is miss told = let e : awaited_ticket m.0.stage ≡ 
     subst (λ (b : Bool). MatchBool b (Takes m n m') (m' ≡ m)) (ne_eqb r (n % 18446744073709551616) (λ h. miss (h ∙ sym is))) told'
 
 -- what a seat with the part p has once it has taken the slot with l in it
-abbrev pub HasTaken : Mine → Part → ℕ → Locked → Mine → Type 0
+abbrev pub HasTaken : Mine → ChannelPart → ℕ → Locked → Mine → Type 0
 HasTaken m p n l m' = m' ≡ (record { start = m.0.start; parts = with_seen (history_of l) p ∷ []; stage = Holding n }, (0, Some l) ∷ [])
 
 -- and once the board is out of the slot
-abbrev pub HasOut : Mine → Part → ℕ → Locked → Mine → Type 0
+abbrev pub HasOut : Mine → ChannelPart → ℕ → Locked → Mine → Type 0
 HasOut m p n l m' = m' ≡ (record { start = m.0.start; parts = with_seen (history_of l) p ∷ []; stage = Holding n }, (0, None) ∷ [])
 
 -- what is known of the board that is taken
-abbrev pub IsTaken : Mine → Part → Locked → Type 0
+abbrev pub IsTaken : Mine → ChannelPart → Locked → Type 0
 IsTaken m p l = (l.board.start ≡ m.0.start) × AreLawful m.0.start l.board.entries × Fits m.0.start (history_of l) p
 
-abbrev pub Holds : Mine → Part → ℕ → Mine → Type 0
+abbrev pub Holds : Mine → ChannelPart → ℕ → Mine → Type 0
 Holds m p n m' = (l : Locked) × HasTaken m p n l m' × IsTaken m p l
 
-takes_holds : (m m' : Mine) (p : Part) (n : ℕ) (st : Stage) → m.1 ≡ [] → m.0.parts ≡ p ∷ [] → Takes (at_stage m.0 st, m.1) n m' → Holds m p n m'
+takes_holds : (m m' : Mine) (p : ChannelPart) (n : ℕ) (st : Stage) → m.1 ≡ [] → m.0.parts ≡ p ∷ [] → Takes (at_stage m.0 st, m.1) n m' → Holds m p n m'
 takes_holds m m' p n st slots parts t = let l : Locked = t.0 in (
   l,
   t.1 ∙ (λ i. (record { start = m.0.start; parts = map (with_seen (history_of l)) (parts i); stage = Holding n }, (0, Some l) ∷ slots i)),
   (t.2, t.3, (subst (Every (Fits m.0.start (history_of l))) parts t.4).0),
 )
 
-pub entered : (m m' m'' : Mine) (p : Part) (n : ℕ) → m.1 ≡ [] → m.0.parts ≡ p ∷ [] → m' ≡ (at_stage m.0 (Waiting n), m.1) → Takes m' n m'' → Holds m p n m''
+pub entered : (m m' m'' : Mine) (p : ChannelPart) (n : ℕ) → m.1 ≡ [] → m.0.parts ≡ p ∷ [] → m' ≡ (at_stage m.0 (Waiting n), m.1) → Takes m' n m'' → Holds m p n m''
 entered m m' m'' p n slots parts is t = takes_holds m m'' p n (Waiting n) slots parts (subst (λ (x : Mine). Takes x n m'') is t)
 
 -- the board that was taken out is the one that the slot held
@@ -65,13 +65,13 @@ held_value l [] = l
 held_value l ((k, Some x) ∷ xs) = x
 held_value l ((k, None) ∷ xs) = l
 
-pub taken_out : (m m' m'' : Mine) (p : Part) (n : ℕ) (l : Locked) → Holds m p n m' → m'.1 ≡ (0, Some l) ∷ [] → m'' ≡ (m'.0, (0, None) ∷ []) → HasOut m p n l m'' × IsTaken m p l
+pub taken_out : (m m' m'' : Mine) (p : ChannelPart) (n : ℕ) (l : Locked) → Holds m p n m' → m'.1 ≡ (0, Some l) ∷ [] → m'' ≡ (m'.0, (0, None) ∷ []) → HasOut m p n l m'' × IsTaken m p l
 taken_out m m' m'' p n l h out is = let same : h.0 ≡ l = ap (held_value l) (sym (ap (λ (x : Mine). x.1) h.1) ∙ out) in
     subst (λ (x : Locked). HasOut m p n x m'' × IsTaken m p x) same (is ∙ ap (λ (x : Mine). (x.0, (0, None) ∷ [])) h.1, h.2)
 
 -- ---- what a turn did is counted
 
-acts_goes : (start : StartView) (h after : History) (p : Part) (step : Step) (answer : Option Outcome) → AreLawful start h.entries → runs start h p.channel ≡ true
+acts_goes : (start : StartView) (h after : History) (p : ChannelPart) (step : Step) (answer : Option Outcome) → AreLawful start h.entries → runs start h p.channel ≡ true
     → Brings start p.channel step h answer after → Goes start (with_seen h p) after (count_at h.closed)
 acts_goes start h after p step answer lawful on (ToClosed closed same said) = inl (same, ap count_at closed)
 acts_goes start h after p step answer lawful on (ToLook off same said) = no_truth (runs start h p.channel) on off
@@ -83,12 +83,12 @@ acts_goes start h after p step answer lawful on (ToNoMemory closed ran made said
 pub act_goes : (m : Mine) (c : ℕ) (step : Step) (l l' : Locked) (answer : Option Outcome) (more : ℕ) → IsPass m c → IsTaken m (part_of m.0) l → runs m.0.start (part_of m.0).seen c ≡ true
     → Brings l.board.start c step (history_of l) answer (history_of l') → more ≡ count_at l.closed → Goes m.0.start (with_seen (history_of l) (part_of m.0)) (history_of l') more
 act_goes m c step l l' answer more pass taken on brings is =
-    let p : Part = part_of m.0 in let h : History = history_of l in let f = taken.2 in
+    let p : ChannelPart = part_of m.0 in let h : History = history_of l in let f = taken.2 in
     let ran : runs m.0.start h p.channel ≡ true = seen_running m.0.start p.channel p.seen h (ap (runs m.0.start p.seen) pass.3 ∙ on) f.sees in
     subst (λ (k : ℕ). Goes m.0.start (with_seen h p) (history_of l') k) (sym is)
     (acts_goes m.0.start h (history_of l') p step answer taken.1 ran (subst (λ (z : StartView × ℕ). Brings z.0 z.1 step h answer (history_of l')) (λ i. (taken.0 i, sym pass.3 i)) brings))
 
-shut_goes_by : (start : StartView) (es : List EntryView) (p : Part) (b : Bool) → Goes start (with_seen (history es b) p) (history es true) (count_at b)
+shut_goes_by : (start : StartView) (es : List EntryView) (p : ChannelPart) (b : Bool) → Goes start (with_seen (history es b) p) (history es true) (count_at b)
 shut_goes_by start es p true = inl (refl, refl)
 shut_goes_by start es p false = inr (refl, refl, inr refl)
 
@@ -121,7 +121,7 @@ pub turn_done : (m m1 m2 : Mine) (n c : ℕ) (l l' : Locked) (more : ℕ) → Is
     → m2 ≡ (record { start = m1.0.start; parts = with_count (history_of l') (part_of m1.0) ∷ []; stage = Idle }, [])
     → Goes m.0.start (with_seen (history_of l) (part_of m.0)) (history_of l') more → HasTurned m c l l' m2
 turn_done m m1 m2 n c l l' more pass is taken is' goes =
-    let p : Part = part_of m.0 in let h : History = history_of l in let h' : History = history_of l' in
+    let p : ChannelPart = part_of m.0 in let h : History = history_of l in let h' : History = history_of l' in
     let lawful : AreLawful m.0.start h'.entries = goes_lawful m.0.start (with_seen h p) h' more goes taken.1 in
     let m3 : Mine = (record { start = m.0.start; parts = with_count h' (with_seen h p) ∷ []; stage = Idle }, []) in
     let e : m2 ≡ m3 = is' ∙ (λ i. (record { start = (is i).0.start; parts = with_count h' (part_of (is i).0) ∷ []; stage = Idle }, [])) in

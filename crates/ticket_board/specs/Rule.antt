@@ -10,7 +10,7 @@ use Rattle.sync_types.specs.Boards.{first_board}
 use Rattle.sync_types.specs.Turns.{AreEntries}
 use Rattle.sync_types.specs.Views.{StartView, EntryView}
 use Rattle.ticket_board.specs.Passes.{channels_of, no_history}
-use Rattle.ticket_board.specs.declared.rule.Part.{Part}
+use Rattle.ticket_board.specs.declared.rule.ChannelPart.{ChannelPart}
 use Rattle.ticket_board.specs.declared.rule.Stage.{Stage}
 use Rattle.ticket_board.specs.declared.rule.Stage.TheVariants.{Idle, Waiting, Holding}
 use Rattle.ticket_board.specs.declared.rule.View.{View}
@@ -56,32 +56,32 @@ one_if true = 1
 one_if false = 0
 
 -- how many parts are of a channel
-abbrev pub parts_for : ℕ → List Part → ℕ
-parts_for c ps = total (λ (p : Part). one_if (p.channel == c)) ps
+abbrev pub parts_for : ℕ → List ChannelPart → ℕ
+parts_for c ps = total (λ (p : ChannelPart). one_if (p.channel == c)) ps
 
 abbrev pub parts_of_channel : ℕ → View → ℕ
 parts_of_channel c v = parts_for c v.parts
 
 -- for how many parts the closing mark was put
-abbrev pub marks_for : List Part → ℕ
-marks_for ps = total (λ (p : Part). one_if p.shut) ps
+abbrev pub marks_for : List ChannelPart → ℕ
+marks_for ps = total (λ (p : ChannelPart). one_if p.shut) ps
 
 abbrev pub marks_of : View → ℕ
 marks_of v = marks_for v.parts
 
 -- the history begins with what was seen for a channel, which is lawful and has all of the channel's entries; where the closing mark was put for
 -- it, that was seen
-pub record Fits (start : StartView) (log : History) (p : Part) : Type 0 where
+pub record Fits (start : StartView) (log : History) (p : ChannelPart) : Type 0 where
   pub lawful : AreLawful start p.seen.entries
   pub sees : SeesOn p.channel p.seen log
   pub mine : own_entries p.channel p.seen.entries ≡ p.mine
   pub shut : p.shut ≡ true → p.seen.closed ≡ true
 
 -- a ticket that waits is not served yet; the one that is served holds the slot, and has seen the whole history
-abbrev pub Stands : History → ℕ → ℕ → ℕ → Bool → ℕ → List Part → Stage → Type 0
+abbrev pub Stands : History → ℕ → ℕ → ℕ → Bool → ℕ → List ChannelPart → Stage → Type 0
 Stands log drawn served holder out j parts Idle = Unit {0}
 Stands log drawn served holder out j parts (Waiting n) = (served ≤ n) × (n < drawn)
-Stands log drawn served holder out j parts (Holding n) = (served ≡ n) × (n < drawn) × (out ≡ true) × (j ≡ holder) × Every (λ (p : Part). p.seen ≡ log) parts
+Stands log drawn served holder out j parts (Holding n) = (served ≡ n) × (n < drawn) × (out ≡ true) × (j ≡ holder) × Every (λ (p : ChannelPart). p.seen ≡ log) parts
 
 pub record Knows (start : StartView) (log : History) (drawn served holder : ℕ) (out : Bool) (j : ℕ) (v : View) : Type 0 where
   pub start_is : 0 < part_count v → v.start ≡ start
@@ -119,7 +119,7 @@ pub record IsKept (key : StartView) (s : State (Option Locked) View) : Type 0 wh
   pub marked : total marks_of s.views ≡ one_if log.closed
 
 -- the part of a channel that has seen nothing, and the view of a seat that has all of them
-abbrev pub fresh_part : ℕ → Part
+abbrev pub fresh_part : ℕ → ChannelPart
 fresh_part c = record { channel = c; seen = no_history; mine = []; shut = false }
 
 abbrev pub first_view : StartView → View

@@ -6,7 +6,7 @@ use Rattle.coord_core.specs.Histories.{History, history_of}
 use Rattle.coord_core.specs.declared.locked.Locked.{Locked}
 use Rattle.sync_types.specs.Views.{StartView, EntryView}
 use Rattle.ticket_board.specs.Rule.{AreLawful, Every, Fits}
-use Rattle.ticket_board.specs.declared.rule.Part.{Part}
+use Rattle.ticket_board.specs.declared.rule.ChannelPart.{ChannelPart}
 use Rattle.ticket_board.specs.declared.rule.Stage.{Stage}
 use Rattle.ticket_board.specs.declared.rule.Stage.TheVariants.{Idle, Waiting, Holding}
 use Rattle.ticket_board.specs.declared.rule.View.{View}
@@ -23,7 +23,7 @@ abbrev pub Draws : Mine → ℕ → Mine → Type 0
 Draws m r m' = (n : ℕ) × (r ≡ n % 18446744073709551616) × (m' ≡ (at_stage m.0 (Waiting n), m.1))
 
 -- with the whole history seen
-abbrev pub with_seen : History → Part → Part
+abbrev pub with_seen : History → ChannelPart → ChannelPart
 with_seen h p = record { channel = p.channel; seen = h; mine = p.mine; shut = p.shut }
 
 -- the slot is taken
@@ -44,14 +44,14 @@ abbrev pub puts_mark : History → History → Bool
 puts_mark before after = not before.closed && after.closed
 
 -- what was done is counted: what was seen is the history h, with the own entries in it, and the closing mark where it was put
-abbrev pub with_count : History → Part → Part
+abbrev pub with_count : History → ChannelPart → ChannelPart
 with_count h p = record { channel = p.channel; seen = h; mine = own_entries p.channel h.entries; shut = p.shut || puts_mark p.seen h }
 
 abbrev pub Counts : History → Mine → Mine → Type 0
 Counts h m m' = m' ≡ (record { start = m.0.start; parts = map (with_count h) m.0.parts; stage = m.0.stage }, m.1)
 
 -- the history h goes on from what was seen for a channel, by the number k: an entry of that channel, the closing mark, or nothing more
-abbrev pub Goes : StartView → Part → History → ℕ → Type 0
+abbrev pub Goes : StartView → ChannelPart → History → ℕ → Type 0
 Goes start p h k = ((h ≡ p.seen) × (k ≡ 0))
     ⊎ ((p.seen.closed ≡ false) × (k ≡ 1) × (((e : EntryView) × (e.channel ≡ p.channel) × AreLawful start (p.seen.entries ++ e ∷ []) × (h ≡ record { entries = p.seen.entries ++ e ∷ []; closed = false }))
     ⊎ (h ≡ record { entries = p.seen.entries; closed = true })))
@@ -68,7 +68,7 @@ abbrev pub only_first : View → View
 only_first v = record { start = v.start; parts = take 1 v.parts; stage = Idle }
 
 -- all parts come together
-abbrev pub start_with : StartView → List Part → StartView → StartView
+abbrev pub start_with : StartView → List ChannelPart → StartView → StartView
 start_with start [] other = other
 start_with start (p ∷ ps) other = start
 

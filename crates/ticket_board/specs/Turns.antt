@@ -7,15 +7,15 @@ use Rattle.sync_types.specs.Views.{StartView}
 use Rattle.ticket_board.specs.Passes.{TicketPassView, is_no_memory, no_history}
 use Rattle.ticket_board.specs.Rule.{AreLawful, fresh_part}
 use Rattle.ticket_board.specs.Steps.{Mine}
-use Rattle.ticket_board.specs.declared.rule.Part.{Part}
+use Rattle.ticket_board.specs.declared.rule.ChannelPart.{ChannelPart}
 use Rattle.ticket_board.specs.declared.rule.Stage.TheVariants.{Idle}
 use Rattle.ticket_board.specs.declared.rule.View.{View}
 
-abbrev pub first_part : List Part → Part
+abbrev pub first_part : List ChannelPart → ChannelPart
 first_part [] = fresh_part 0
 first_part (p ∷ ps) = p
 
-abbrev pub part_of : View → Part
+abbrev pub part_of : View → ChannelPart
 part_of v = first_part v.parts
 
 -- how much a turn counts that changes a board: nothing at a closed one
@@ -38,7 +38,7 @@ IsPass m c = (m.0.stage ≡ Idle) × (m.1 ≡ []) × (m.0.parts ≡ part_of m.0 
 abbrev pub pass_view : TableId → Mine → ℕ → TicketPassView
 pass_view t m c = record { table_id = t; channel = c; start = m.0.start; seen = (part_of m.0).seen; mine = (part_of m.0).mine; shut = (part_of m.0).shut }
 
-abbrev pub part_in : TicketPassView → Part
+abbrev pub part_in : TicketPassView → ChannelPart
 part_in pass = record { channel = pass.channel; seen = pass.seen; mine = pass.mine; shut = pass.shut }
 
 -- the pass of a channel with which nothing was done yet

@@ -9,8 +9,8 @@ ghost use Rattle.ticket_board.specs.Rule.{first_view};
 use crate::board::TicketBoard;
 use crate::held::HeldBoard;
 use crate::pass::TicketPass;
-use crate::plays::Sit;
-use crate::rule::{Place, Rules, View};
+use crate::plays::SeatPlay;
+use crate::rule::{Rules, SeatAt, View};
 use atomic_table::Table;
 use axis_sets::{CHANNEL_PLACES, ChannelId};
 use coord_core::Board;
@@ -25,7 +25,7 @@ fn make_table(
 ) -> Result<
     (
         Table<Option<HeldBoard>, View, StartState, Rules, Global>,
-        Place,
+        SeatAt,
     ),
     NoMemory,
 >
@@ -83,7 +83,7 @@ impl TicketBoard {
         ensures history { HasOneHistory passes.items result }
     {
         let TicketBoard { table } = self;
-        let (_, mut all) = table.shared.load_new_seat::<Sit>(0);
+        let (_, mut all) = table.shared.load_new_seat::<SeatPlay>(0);
         let mut passes = passes;
         while let Some(pass) = passes.pop() {
             pass.give_up(&table.shared, &mut all);

@@ -8,10 +8,10 @@ ghost use Rattle.ticket_board.specs.Passes.{Makes, PutsMark, told_of};
 ghost use Rattle.ticket_board.specs.Rule.{fresh_part};
 ghost use Rattle.ticket_board.specs.Steps.{all_but_first};
 ghost use Rattle.ticket_board.specs.Turns.{part_in, first_pass, wants_memory};
-ghost use Rattle.ticket_board.specs.declared.rule.Part.{Part};
+ghost use Rattle.ticket_board.specs.declared.rule.ChannelPart.{ChannelPart};
 ghost use Rattle.ticket_board.specs.declared.rule.Stage.TheVariants.{Idle};
 
-use crate::rule::{Place, Tickets};
+use crate::rule::{SeatAt, Tickets};
 use crate::steps::{join, split};
 use crate::turn::{enter, leave};
 use axis_sets::ChannelId;
@@ -24,7 +24,7 @@ use sync_types::Step;
 /// seen of the history, the entries that were made with it, and whether the closing mark was put with it.
 #[derive(Drop)]
 pub struct TicketPass {
-    seat: Place,
+    seat: SeatAt,
     channel: ChannelId,
 }
 
@@ -103,10 +103,10 @@ impl TicketPass {
     }
 
     /// The first part of a seat that nobody has used, as a pass.
-    pub(crate) fn cut(table: &Tickets, seat: &mut Place, channel: ChannelId) -> TicketPass
+    pub(crate) fn cut(table: &Tickets, seat: &mut SeatAt, channel: ChannelId) -> TicketPass
         requires table { (seat.old.table_id ≡ table.now.table_id) × (table.now.table_id.words ≡ 3) }
         requires first { (seat.old.me.0.stage ≡ Idle)
-            × ((ps : List Part) × (seat.old.me.0.parts ≡ fresh_part channel ∷ ps)) }
+            × ((ps : List ChannelPart) × (seat.old.me.0.parts ≡ fresh_part channel ∷ ps)) }
         ensures pass { result ≡ first_pass seat.old.table_id seat.old.me.0.start channel }
         ensures seat { (seat.new.table_id ≡ seat.old.table_id)
             × (seat.new.me ≡ (all_but_first seat.old.me.0, seat.old.me.1)) }
@@ -120,7 +120,7 @@ impl TicketPass {
     }
 
     /// Gives its part to a seat that gathers them.
-    pub(crate) fn give_up(self, table: &Tickets, all: &mut Place)
+    pub(crate) fn give_up(self, table: &Tickets, all: &mut SeatAt)
         requires table { (self.table_id ≡ table.now.table_id) × (all.old.table_id ≡ table.now.table_id)
             × (table.now.table_id.words ≡ 3) }
         requires idle { all.old.me.0.stage ≡ Idle }

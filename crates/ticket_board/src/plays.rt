@@ -56,9 +56,9 @@ impl Play<Option<HeldBoard>, View> for Serve {
 }
 
 /// The part of the first channel goes to a seat of its own.
-pub(crate) struct OneEach;
+pub(crate) struct SplitFirst;
 
-impl Split<View> for OneEach {
+impl Split<View> for SplitFirst {
     ghost use Rattle.ticket_board.specs.Steps.{all_but_first, only_first};
 
     ghost left = { all_but_first };
@@ -67,9 +67,9 @@ impl Split<View> for OneEach {
 }
 
 /// The parts of two seats come together.
-pub(crate) struct Together;
+pub(crate) struct JoinParts;
 
-impl Join<View> for Together {
+impl Join<View> for JoinParts {
     ghost use Rattle.ticket_board.specs.Steps.{both_views, spent_view};
 
     ghost both = { both_views };
@@ -78,9 +78,9 @@ impl Join<View> for Together {
 }
 
 /// A seat comes with no part.
-pub(crate) struct Sit;
+pub(crate) struct SeatPlay;
 
-impl Play<Option<HeldBoard>, View> for Sit {
+impl Play<Option<HeldBoard>, View> for SeatPlay {
     ghost use Rattle.ticket_board.specs.Steps.{Sits};
 
     ghost then = { λ st m r m'. Sits m' };

@@ -23,7 +23,7 @@ impl Model for SeenHistory {
 
 /// What is known for one channel: what was seen of the history, the channel's own entries, and whether the closing mark was
 /// put for it. No value of it is made.
-pub(crate) struct Part {
+pub(crate) struct ChannelPart {
     pub channel: ChannelId,
     pub seen: SeenHistory,
     pub mine: LinkedList<Entry>,
@@ -43,7 +43,7 @@ pub(crate) enum Stage {
 /// What a seat knows: where the board started, and a part for each channel that it speaks for. No value of it is made.
 pub(crate) struct View {
     pub start: StartState,
-    pub parts: LinkedList<Part>,
+    pub parts: LinkedList<ChannelPart>,
     pub stage: Stage,
 }
 
@@ -62,4 +62,4 @@ impl TableRule<Option<HeldBoard>, View, StartState> for Rules {
 pub(crate) type Tickets = Shared<Option<HeldBoard>, View, StartState, Rules>;
 
 /// A seat at it.
-pub(crate) type Place = Seat<Option<HeldBoard>, View>;
+pub(crate) type SeatAt = Seat<Option<HeldBoard>, View>;

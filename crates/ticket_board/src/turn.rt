@@ -4,18 +4,18 @@ ghost use Rattle.coord_core.specs.Histories.{history_of};
 ghost use Rattle.ticket_board.specs.Rule.{AreLawful, Fits, length_with_mark};
 ghost use Rattle.ticket_board.specs.Steps.{Goes, with_seen, with_count};
 ghost use Rattle.ticket_board.specs.Turns.{part_of};
-ghost use Rattle.ticket_board.specs.declared.rule.Part.{Part};
+ghost use Rattle.ticket_board.specs.declared.rule.ChannelPart.{ChannelPart};
 ghost use Rattle.ticket_board.specs.declared.rule.Stage.TheVariants.{Idle, Waiting, Holding};
 
 use crate::held::HeldBoard;
-use crate::rule::{Place, Tickets};
+use crate::rule::{SeatAt, Tickets};
 use crate::steps::{count, draw, put_back, read, serve, take_board};
 use crossbeam_utils::Backoff;
 use std::marker::Brand;
 use std::sync::Wait;
 
 /// Draws a ticket, reads the number served until it is the ticket, and takes the board out.
-pub(crate) fn enter<R: Wait>(rt: &R, table: &Tickets, seat: &mut Place) -> HeldBoard
+pub(crate) fn enter<R: Wait>(rt: &R, table: &Tickets, seat: &mut SeatAt) -> HeldBoard
     requires table { (seat.old.table_id ≡ table.now.table_id) × (table.now.table_id.words ≡ 3) }
     requires idle { (seat.old.me.0.stage ≡ Idle) × (seat.old.me.1 ≡ [])
         × (seat.old.me.0.parts ≡ part_of seat.old.me.0 ∷ []) }
@@ -44,7 +44,7 @@ pub(crate) fn enter<R: Wait>(rt: &R, table: &Tickets, seat: &mut Place) -> HeldB
 }
 
 /// Counts what was done to the board, puts it back and serves the next ticket.
-pub(crate) fn leave(table: &Tickets, seat: &mut Place, held: HeldBoard, more: u64)
+pub(crate) fn leave(table: &Tickets, seat: &mut SeatAt, held: HeldBoard, more: u64)
     requires table { (seat.old.table_id ≡ table.now.table_id) × (table.now.table_id.words ≡ 3) }
     requires holds { (n : ℕ) × (seat.old.me.0.stage ≡ Holding n) }
     requires slot { (seat.old.me.1 ≡ (0, None) ∷ []) × (seat.old.me.0.parts ≡ part_of seat.old.me.0 ∷ []) }

@@ -1,4 +1,4 @@
-use Rattle.coordination_tests.specs.MarkRows.{two_channels}
+use Rattle.coordination_tests.specs.MarkClocks.{two_channels}
 use Rattle.schedule_laws.proofs.RunLaws.{all_agree}
 use Rattle.schedule_laws.specs.Schedules.{IsQuietRun}
 use Rattle.coordination_tests.proofs.Meeting.{first_is_maximal, first_is_sequential, numbers, quiet, second_is_maximal, sound, they_differ}

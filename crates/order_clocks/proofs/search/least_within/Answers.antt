@@ -1,7 +1,7 @@
 use Rattle.order_clocks.specs.declared.events.TheConstants.{EVENT_PLACES}
 use Rattle.std.proofs.Common.{None, ◌⊎◌}
 use Rattle.order_clocks.specs.Pairs.{IsRaceBetween}
-use Rattle.order_clocks.specs.declared.pairs.Meeting.TheVariants.{Together, Waiting}
+use Rattle.order_clocks.specs.declared.pairs.RaceTiming.TheVariants.{Together, Waiting}
 use Rattle.order_clocks.proofs.PairLaws.{least_both}
 use Rattle.order_clocks.proofs.search.least_within.Goals as goal
 

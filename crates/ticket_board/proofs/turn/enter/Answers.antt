@@ -2,15 +2,15 @@ use Rattle.std.proofs.Common.{List, ap, arith, length, ◌≡◌, ◌∙◌}
 use Rattle.ticket_board.proofs.Turning.{entered, reads_hit, reads_miss, taken_out}
 use Rattle.ticket_board.specs.Steps.{Mine}
 use Rattle.ticket_board.specs.Turns.{part_of}
-use Rattle.ticket_board.specs.declared.rule.Part.{Part}
+use Rattle.ticket_board.specs.declared.rule.ChannelPart.{ChannelPart}
 use Rattle.ticket_board.proofs.turn.enter.Goals as goal
 
 pub draw-ticket-requires : goal.draw-ticket-requires
-draw-ticket-requires g c = let e : length c.args.seat.now.me.0.parts ≡ 1 = ap (λ (ps : List Part). length ps) c.requires.idle.2 in record { table = c.requires.table; idle = (c.requires.idle.0, omega (arith, e)) }
+draw-ticket-requires g c = let e : length c.args.seat.now.me.0.parts ≡ 1 = ap (λ (ps : List ChannelPart). length ps) c.requires.idle.2 in record { table = c.requires.table; idle = (c.requires.idle.0, omega (arith, e)) }
 
 pub read-requires : goal.read-requires
 read-requires g c = let d = c.draw-ticket.ensures.drawn in let i = c.loop.invariant in let me = i.2 ∙ d.2 in
-    let e : length c.loop.seat.me.0.parts ≡ 1 = ap (λ (m : Mine). length m.0.parts) me ∙ ap (λ (ps : List Part). length ps) c.requires.idle.2 in record {
+    let e : length c.loop.seat.me.0.parts ≡ 1 = ap (λ (m : Mine). length m.0.parts) me ∙ ap (λ (ps : List ChannelPart). length ps) c.requires.idle.2 in record {
       table = (i.0 ∙ (c.draw-ticket.ensures.same.0 ∙ c.requires.table.0), c.requires.table.1);
       waits = (omega (arith, e), (d.0, ap (λ (m : Mine). m.0.stage) me));
     }

@@ -4,7 +4,7 @@ use Rattle.std.proofs.lemmas.Bool.{cases_Bool, eqb-true, eqb-false}
 use Rattle.axis_sets.specs.Sets.{has}
 use Rattle.explain_ends.proofs.StepLaws.{mark_apart}
 use Rattle.step_deeds.specs.Holds.{is_given, lowers_at}
-use Rattle.step_deeds.specs.declared.deed.Departure.{Departure}
+use Rattle.step_deeds.specs.declared.deed.Wakeup.{Wakeup}
 use Rattle.explain_ends.proofs.boards.LastBoard.depart.Goals as goal
 
 pub loop-place-preserved : goal.loop-place-preserved
@@ -18,7 +18,7 @@ loop-place-preserved c =
             let e : k ≡ n + 1 = eqb-true k (n + 1) same in
             let later : n < k = omega arith in
             rw (same, i.marks_left k m later, i.holds_left k later)
-            (ap (λ (g : Option Departure). has (slice_index_or c.args.self.now.marks k []) m && not (is_given g && lowers_at (slice_index_or c.args.self.now.holds k None) m))
+            (ap (λ (g : Option Wakeup). has (slice_index_or c.args.self.now.marks k []) m && not (is_given g && lowers_at (slice_index_or c.args.self.now.holds k None) m))
             (gone ∙ ap (λ (j : ℕ). slice_index_or c.args.goes.now j None) (sym e)))
         | inr other ↦
             let apart = eqb-false k (n + 1) other in
@@ -33,7 +33,7 @@ loop-place-preserved c =
             let e : k ≡ n + 1 = eqb-true k (n + 1) same in
             let later : n < k = omega arith in
             rw (same, i.holds_left k later)
-            (ap (λ (g : Option Departure). if is_given g then None else slice_index_or c.args.self.now.holds k None) (gone ∙ ap (λ (j : ℕ). slice_index_or c.args.goes.now j None) (sym e)))
+            (ap (λ (g : Option Wakeup). if is_given g then None else slice_index_or c.args.self.now.holds k None) (gone ∙ ap (λ (j : ℕ). slice_index_or c.args.goes.now j None) (sym e)))
         | inr other ↦ let apart = eqb-false k (n + 1) other in rw other (i.holds_done k from (omega arith))
       ];
       holds_left = λ k later. c.let_go_if.ensures.holds k ∙ elim (cases_Bool (k == n + 1)) [
