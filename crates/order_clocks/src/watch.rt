@@ -17,7 +17,7 @@ use crate::groups::groups_of;
 use axis_sets::{AxisId, AxisSet, CHANNEL_PLACES, ChannelId, ChannelSet, MarkSet, Positions};
 use std::marker::Model;
 use step_deeds::{StepEvents, WaitAt, Wakeup, clear_goes, marks_left, took_of};
-use sync_types::{Entry, Go, Step};
+use sync_types::{Entry, Go};
 
 /// The marks that stand and for what channels wait, by their numbers.
 #[derive(Clone, Copy)]
@@ -155,11 +155,11 @@ impl BoardReplay {
         ensures none { goes_in deed.new 0 ≡ false }
         ensures size { length deed.new.goes ≡ CHANNEL_PLACES }
     {
-        let channel = channel_of(entry);
-        let step = step_of(entry);
+        let channel = entry.channel();
+        let step = entry.step();
         let act = changes_of(channel, &step.action, self.own(channel), alarms);
         self.open(channel, step.line, &act);
-        self.depart(goes_of(entry), &mut deed.goes, &mut deed.group);
+        self.depart(entry.goes(), &mut deed.goes, &mut deed.group);
         let touches = touches_of(&step.action);
         put_act(channel, step.line, &act, touches, deed);
     }
@@ -170,28 +170,6 @@ impl BoardReplay {
     {
         self.marks[usize::from(channel.number)]
     }
-}
-
-/// Who acts in an entry.
-fn channel_of(entry: &Entry) -> ChannelId
-    ensures { result ≡ entry.now.channel }
-{
-    entry.channel
-}
-
-/// What it does.
-fn step_of(entry: &Entry) -> &Step
-    ensures { result.now ≡ entry.now.step }
-{
-    &entry.step
-}
-
-/// Who goes on in it: at most eight.
-fn goes_of(entry: &Entry) -> &[Go]
-    ensures goes { result.now ≡ entry.now.goes }
-    ensures few { length result.now ≤ CHANNEL_LIMIT }
-{
-    entry.goes.as_slice()
 }
 
 /// Puts down who acts, at which line, and what the act changes.
