@@ -1,6 +1,6 @@
 -- Rules 1 to 3 one after another are all at once, on boards.
 use Rattle.axis_sets.specs.declared.limits.TheConstants.{CHANNEL_LIMIT}
-use Rattle.std.proofs.Common.{◌≡◌, ℕ, ℤ, ◌==◌, ◌&&◌, ◌||◌, Bool, true, false, List, [], ◌∷◌, filter, Option, None, Some, inl, inr, refl, sym, ap, ap₂, ◌∙◌}
+use Rattle.std.proofs.Common.{◌≡◌, ℕ, ℤ, ◌==◌, ◌&&◌, ◌||◌, not, Bool, true, false, List, [], ◌∷◌, filter, Option, None, Some, inl, inr, refl, sym, ap, ap₂, ◌∙◌}
 use Rattle.std.proofs.lemmas.Bool.{cases_Bool, eqb-true, eq-eqb, and_parts, or_cases, or_left, or_right, true≢false}
 use Rattle.std.specs.List.{list_all}
 use Rattle.sync_types.specs.Boards.{IsIdle, IsRunning, IsHolding, HasEnded, AtMarks, AtEnds, AtAxes, State as Doing, Ownership, OwnedBy, FreeAt, Board, among, channel_numbers, is_this, owner_of, ownership_of, owns, no_positions, grant_with}
@@ -14,7 +14,7 @@ use Rattle.board_laws.proofs.Basics.{no, ready_met, ready_listed}
 use Rattle.board_laws.proofs.Parts.{free_of}
 use Rattle.board_laws.proofs.Actions.{owns_mine}
 use Rattle.board_laws.proofs.Zones.{zones_goes}
-use Rattle.board_laws.proofs.Takings.{IsOf, in_channels, channels_of, asked, AllTaken, all_taken}
+use Rattle.board_laws.proofs.Takings.{IsOf, in_channels, channels_of, asked, AllTaken, all_taken, taken_was_free}
 use Rattle.board_laws.proofs.Shown.{is_getting, quick_goes, asked_shown, waits_shown, getting_not_quick, getting_ready}
 
 -- the board before the takings of the step, and all of them
@@ -153,8 +153,10 @@ ready_went t c clean zs over r get = elim (cases_Bool (went t c)) [
   | inr out ↦
       let w = left_out t c zs over r get out in
       let g = taken_ready t w.going zs w.took in
-      let took = and_parts (asked (before_takings t) w.going.channel w.axis) (boards.is_free ((before_takings t).axis w.axis)) (sym (((takings_of t zs).each w.going w.took).took w.axis) ∙ w.taken) in
+      let each = (takings_of t zs).each w.going w.took in
+      let took = and_parts (asked (before_takings t) w.going.channel w.axis) (not (owns (before_takings t) w.going.channel w.axis)) (sym (each.took w.axis) ∙ w.taken) in
       let asks_g : asks (t.own w.going.channel).seat (Axis w.axis) ≡ true = sym (asked_gets t w.going.channel w.axis g.1) ∙ took.0 in
-      let free : is_free (t.axis w.axis).owner ≡ true = sym (free_shown (t.axis w.axis).owner (t.axis w.axis).position) ∙ took.1 in
+      let free : is_free (t.axis w.axis).owner ≡ true =
+      sym (free_shown (t.axis w.axis).owner (t.axis w.axis).position) ∙ taken_was_free (before_takings t) (taken_in t).board w.going w.axis each w.taken in
       no asks_g (clean.axes c w.going.channel w.axis r w.asks (free_of (t.axis w.axis).owner c free) w.other)
 ]

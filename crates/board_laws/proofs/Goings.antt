@@ -4,15 +4,16 @@ use Rattle.std.proofs.lemmas.Bool.{cases_Bool, eqb-true, eq-eqb, and_parts, and_
 use Rattle.sync_types.specs.Boards.{IsIdle, IsHolding, AtMarks, AtEnds, State as Doing, Board, among}
 use Rattle.sync_types.specs.Events.{channels_in}
 use Rattle.sync_types.specs.GoingOn.{Going, next_taker, goers_at_once, after_goings}
-use Rattle.board_laws.specs.Machine.{Axis, Call, Seat, In, Called, State, asks, is_free, mine, ready_at, ready, doing_of, board_of}
+use Rattle.board_laws.specs.Machine.{Axis, Call, Seat, In, Called, State, asks, mine, ready_at, ready, doing_of, board_of}
 use Rattle.board_laws.specs.Clean.{GoesClean}
 use Rattle.board_laws.specs.Zones.{Zones}
-use Rattle.board_laws.proofs.Basics.{no, called_self, ready_met, ready_holds}
-use Rattle.board_laws.proofs.Parts.{settle_goes, settle_stays, gone_marks_off, free_of, of_free}
-use Rattle.board_laws.proofs.Absorb.{call_ready, met_axis}
+use Rattle.board_laws.proofs.Basics.{no, called_self, ready_holds}
+use Rattle.board_laws.proofs.Parts.{settle_goes, settle_stays, gone_marks_off}
+use Rattle.board_laws.proofs.Absorb.{call_ready}
+use Rattle.board_laws.proofs.Actions.{owns_mine}
 use Rattle.board_laws.proofs.Takings.{IsOf, in_channels, channels_of}
 use Rattle.board_laws.proofs.Shown.{is_quick, is_getting, is_called, quick_goes, axis_getting}
-use Rattle.board_laws.proofs.AtOnce.{taken_in, went, takings_of, goes_state, stays_state, getting_stays, asked_gets, free_shown, taken_ready, went_ready, ready_went}
+use Rattle.board_laws.proofs.AtOnce.{taken_in, went, takings_of, goes_state, stays_state, getting_stays, asked_gets, taken_ready, went_ready, ready_went}
 use Rattle.board_laws.proofs.SettledBoards.{ready_kinds, marks_after, settled_board}
 use Rattle.board_laws.proofs.PutBoards.{put_board, starts_called}
 use Rattle.sync_types.specs.GoingOn.{going_of_start, going_at_once, goings_on}
@@ -90,15 +91,9 @@ none_taken : (t : State) (c : ℕ) → is_getting (t.own c).seat ≡ false → (
 unfolding axes_taken
 none_taken t c off x = ap (λ (b : Bool). b && not (mine t c x)) (sym (no_axis (t.own c).seat x off))
 
-took_told : (t : State) (c x : ℕ) → ready t c ≡ true → (asks (t.own c).seat (Axis x) && is_free (t.axis x).owner) ≡ axes_taken t c (t.own c).seat x
+took_told : (t : State) (c x : ℕ) → (asks (t.own c).seat (Axis x) && not (mine t c x)) ≡ axes_taken t c (t.own c).seat x
 unfolding axes_taken
-took_told t c x r = elim (cases_Bool (asks (t.own c).seat (Axis x))) [
-  | inr off ↦ rw off refl
-  | inl on ↦ ap (λ (b : Bool). asks (t.own c).seat (Axis x) && b) (elim (met_axis t c x (ready_met t c (t.own c).seat (Axis x) r on)) [
-    | inl f ↦ f ∙ sym (ap not (free_of (t.axis x).owner c f))
-    | inr o ↦ of_free (t.axis x).owner c o ∙ sym (ap not o)
-  ])
-]
+took_told t c x = refl
 
 -- who is in the list of those that go on is one of three kinds
 pub went_of : (t : State) (starts : List ℕ) (g : Going) → Zones (board_of t) → ((c : ℕ) → among starts c ≡ is_called (t.own c).seat) → IsOf g (goings_on (board_of t) starts) → Went t g
@@ -120,7 +115,7 @@ went_of t starts g zs called on = elim (of_append g (map (going_of_start (board_
         record {
           goes = r.0;
           from = w.from ∙ getting_stays t g.channel r.1 ∙ getting_in t g.channel (t.own g.channel).seat r.1;
-          took = λ x. w.took x ∙ ap₂ (λ (a b : Bool). a && b) (asked_gets t g.channel x r.1) (free_shown (t.axis x).owner (t.axis x).position) ∙ took_told t g.channel x r.0;
+          took = λ x. w.took x ∙ ap₂ (λ (a b : Bool). a && not b) (asked_gets t g.channel x r.1) (owns_mine t g.channel x) ∙ took_told t g.channel x;
         }
   ]
 ]

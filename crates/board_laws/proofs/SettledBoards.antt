@@ -14,9 +14,9 @@ use Rattle.board_laws.specs.Machine.{Axis, Call, Seat, In, Called, Own, Cell, St
 use Rattle.board_laws.specs.Clean.{GoesClean}
 use Rattle.board_laws.specs.Zones.{Zones}
 use Rattle.board_laws.proofs.Basics.{no, called_self, ready_holds}
-use Rattle.board_laws.proofs.Parts.{settle_goes, settle_stays, gone_seat, gone_program, gone_marks_at, gone_marks_off, free_of, first_none, only_one, settle_axis_none, settle_axis_some, takes_from, takes_not}
+use Rattle.board_laws.proofs.Parts.{settle_goes, settle_stays, gone_seat, gone_program, gone_marks_at, gone_marks_off, first_none, only_one, settle_axis_none, settle_axis_some, takes_from, takes_not}
 use Rattle.board_laws.proofs.Absorb.{call_ready, took_free}
-use Rattle.board_laws.proofs.Actions.{owner_is}
+use Rattle.board_laws.proofs.Actions.{owner_is, owns_mine}
 use Rattle.board_laws.proofs.Zones.{holder_told, zones_goes, zones_takings}
 use Rattle.board_laws.proofs.Takings.{in_channels, asked, taker_grant}
 use Rattle.board_laws.proofs.Shown.{is_quick, is_getting, is_called, quick_goes, lowers_shown, at_quick, axis_getting, quick_grant, taken_grant}
@@ -55,7 +55,7 @@ and_first true b off = absurd (true≢false off)
 and_first false b off = refl
 
 abbrev grant_in : State → ℕ → Doing → Grant
-grant_in t c s = grant_by t.start c (λ x. among (axes_asked s) x || owns (board_of t) c x) (positions_where (λ x. among (axes_asked s) x && boards.is_free ((board_of t).axis x)) (λ x. free_position ((board_of t).axis x))) t.on (t.own c).program
+grant_in t c s = grant_by t.start c (λ x. among (axes_asked s) x || owns (board_of t) c x) (positions_where (λ x. among (axes_asked s) x && not (owns (board_of t) c x)) (λ x. free_position ((board_of t).axis x))) t.on (t.own c).program
 
 before_same : (t : State) (c : ℕ) → is_getting (t.own c).seat ≡ true → taker_grant (before_takings t) c ≡ taker_grant (board_of t) c
 before_same t c get = ap (λ (s : Doing). grant_in t c s) (getting_stays t c get)
@@ -137,6 +137,10 @@ program_after t c = elim (cases_Bool (ready t c)) [
   | inr s ↦ sym (ap (λ (o : Own). o.program) (settle_stays t c s))
 ]
 
+not_on : (b : Bool) → not b ≡ true → b ≡ false
+not_on true off = absurd (true≢false (sym off))
+not_on false off = refl
+
 given_shown : (t : State) (c : ℕ) (cell : Cell) → ownership_of (cell_after_taking t (Some c) cell).owner (cell_after_taking t (Some c) cell).position ≡ OwnedBy c
 unfolding cell_after_taking
 given_shown t c cell = refl
@@ -149,10 +153,9 @@ axis_after t x clean zs over =
       | inr g ↦
           let w = all.each g.0 g.1.0 in
           let r = taken_ready t g.0 zs g.1.0 in
-          let took = and_parts (asked (before_takings t) g.0.channel x) (boards.is_free ((before_takings t).axis x)) (sym (w.took x) ∙ g.1.1) in
+          let took = and_parts (asked (before_takings t) g.0.channel x) (not (owns (before_takings t) g.0.channel x)) (sym (w.took x) ∙ g.1.1) in
           let on : asks (t.own g.0.channel).seat (Axis x) ≡ true = sym (asked_gets t g.0.channel x r.1) ∙ took.0 in
-          let free : is_free (t.axis x).owner ≡ true = sym (free_shown (t.axis x).owner (t.axis x).position) ∙ took.1 in
-          let off : mine t g.0.channel x ≡ false = free_of (t.axis x).owner g.0.channel free in
+          let off : mine t g.0.channel x ≡ false = sym (owns_mine t g.0.channel x) ∙ not_on (owns (before_takings t) g.0.channel x) took.1 in
           let some : taker t x ≡ Some g.0.channel = only_one (takes t x) channel_numbers g.0.channel w.listed (takes_from t x g.0.channel r.0 on off)
           (λ d n. takes_not t x d (λ rd yd md. no yd (clean.axes g.0.channel d x r.0 on off n))) in
           w.has x took.0 ∙ sym (ap (λ (z : Cell). ownership_of z.owner z.position) (settle_axis_some t x g.0.channel some) ∙ given_shown t g.0.channel (t.axis x))

@@ -199,14 +199,10 @@ started_grant t c zs call =
 pub taken_grant : (t : State) (c : ℕ) → ready t c ≡ true → is_getting (t.own c).seat ≡ true → taker_grant (board_of t) c ≡ grant_at_go t c (t.own c)
 unfolding grant_at_go axes_then_owned places_of axes_taken
 taken_grant t c r get =
-    ap (λ (f : ℕ → Bool). grant_by t.start c f (positions_where (λ x. among (axes_asked (doing_of t c (t.own c).seat)) x && boards.is_free ((board_of t).axis x)) (λ x. free_position ((board_of t).axis x))) t.on (t.own c).program)
+    ap (λ (f : ℕ → Bool). grant_by t.start c f (positions_where (λ x. among (axes_asked (doing_of t c (t.own c).seat)) x && not (owns (board_of t) c x)) (λ x. free_position ((board_of t).axis x))) t.on (t.own c).program)
     (fun_ext λ x. ap₂ (λ (a b : Bool). a || b) (asked_shown t c x (t.own c).seat) (owns_mine t c x))
     ∙ ap (λ (at : List (Option ℤ)). grant_by t.start c (λ x. asks (t.own c).seat (Axis x) || mine t c x) at t.on (t.own c).program) (places (t.own c).seat get refl)
   where
-    free_shown : (o : Option ℕ) (p : ℤ) → boards.is_free (ownership_of o p) ≡ is_free o
-    free_shown None p = refl
-    free_shown (Some d) p = refl
-
     at_free : (o : Option ℕ) (p : ℤ) → is_free o ≡ true → free_position (ownership_of o p) ≡ p
     at_free None p f = refl
     at_free (Some d) p f = no f refl
@@ -218,14 +214,8 @@ taken_grant t c r get =
     ]
 
     places : (s : Seat) → is_getting s ≡ true → (t.own c).seat ≡ s
-        → positions_where (λ x. among (axes_asked (doing_of t c (t.own c).seat)) x && boards.is_free ((board_of t).axis x)) (λ x. free_position ((board_of t).axis x)) ≡ places_of t c s
-    places (In state) on e = positions_same (λ x. among (axes_asked (doing_of t c (t.own c).seat)) x && boards.is_free ((board_of t).axis x)) (axes_taken t c (In state)) (λ x. free_position ((board_of t).axis x)) (λ a. (t.axis a).position)
-        (λ x. ap (λ (b : Bool). b && boards.is_free ((board_of t).axis x)) (asked_shown t c x (t.own c).seat) ∙ both x ∙ ap (λ (z : Seat). asks z (Axis x) && not (mine t c x)) e)
+        → positions_where (λ x. among (axes_asked (doing_of t c (t.own c).seat)) x && not (owns (board_of t) c x)) (λ x. free_position ((board_of t).axis x)) ≡ places_of t c s
+    places (In state) on e = positions_same (λ x. among (axes_asked (doing_of t c (t.own c).seat)) x && not (owns (board_of t) c x)) (axes_taken t c (In state)) (λ x. free_position ((board_of t).axis x)) (λ a. (t.axis a).position)
+        (λ x. ap₂ (λ (a b : Bool). a && not b) (asked_shown t c x (t.own c).seat) (owns_mine t c x) ∙ ap (λ (z : Seat). asks z (Axis x) && not (mine t c x)) e)
         (λ x on. at_free (t.axis x).owner (t.axis x).position (not_mine x (ap (λ (z : Seat). asks z (Axis x)) e ∙ (and_parts (asks (In state) (Axis x)) (not (mine t c x)) on).0) ∙ (and_parts (asks (In state) (Axis x)) (not (mine t c x)) on).1))
-      where
-        both : (x : ℕ) → (asks (t.own c).seat (Axis x) && boards.is_free ((board_of t).axis x)) ≡ (asks (t.own c).seat (Axis x) && not (mine t c x))
-        both x = elim (cases_Bool (asks (t.own c).seat (Axis x))) [
-          | inl on ↦ ap (λ (b : Bool). asks (t.own c).seat (Axis x) && b) (free_shown (t.axis x).owner (t.axis x).position ∙ not_mine x on)
-          | inr off ↦ rw off refl
-        ]
     places (Called p) on e = no on refl

@@ -1,9 +1,10 @@
 -- Who takes axes in a step, and what that leaves.
 use Rattle.std.proofs.Math.Path.{fun_ext}
-use Rattle.std.proofs.Common.{◌≡◌, ℕ, ℤ, zero, suc, ◌⊎◌, ◌==◌, ◌&&◌, ◌||◌, Bool, true, false, List, [], ◌∷◌, filter, map, Option, None, Some, inl, inr, refl, sym, ap, subst, ◌∙◌, if◌then◌else◌}
-use Rattle.std.proofs.lemmas.Bool.{cases_Bool, eqb-true, eq-eqb, ne_eqb, and_parts, and_from, or_cases, or_left, or_right}
+use Rattle.std.proofs.Common.{◌≡◌, ℕ, ℤ, zero, suc, ◌⊎◌, ◌==◌, ◌&&◌, ◌||◌, not, Bool, true, false, List, [], ◌∷◌, filter, map, Option, None, Some, inl, inr, refl, sym, ap, ap₂, subst, ◌∙◌, if◌then◌else◌}
+use Rattle.std.proofs.lemmas.Bool.{cases_Bool, eqb-true, eq-eqb, ne_eqb, and_parts, or_cases, or_left, or_right}
 use Rattle.std.specs.List.{list_all}
-use Rattle.sync_types.proofs.BoardTests.{no_truth, among_kept, passes, first_passes}
+use Rattle.sync_types.proofs.BoardTests.{no_truth, first_passes}
+use Rattle.sync_types.proofs.TakenAxes.{free_is_not_own, may_take, named_and_not_own, taken_is_free}
 use Rattle.sync_types.specs.Boards.{IsRunning, State as Doing, Ownership, OwnedBy, FreeAt, Board, among, axis_numbers, channel_numbers, is_this, owner_of, is_free, owns, positions_where}
 use Rattle.sync_types.specs.Events.{channels_in}
 use Rattle.sync_types.specs.GoingOn.{Going, first_of, axes_asked, waits_for_axes, can_take, next_taker, axes_to_take, free_position, ownership_after_taking, state_after_taking, with_its_axes, grant_of_taker, after_taking, going_of_taker, Takings, takings, takings_from}
@@ -36,7 +37,7 @@ asked b c x = among (axes_asked (b.state c)) x
 
 -- what who takes goes on with
 abbrev pub taker_grant : Board → ℕ → Grant
-taker_grant b c = grant_by b.start c (λ x. asked b c x || owns b c x) (positions_where (λ x. asked b c x && is_free (b.axis x)) (λ x. free_position (b.axis x))) b.is_on (b.program c)
+taker_grant b c = grant_by b.start c (λ x. asked b c x || owns b c x) (positions_where (λ x. asked b c x && not (owns b c x)) (λ x. free_position (b.axis x))) b.is_on (b.program c)
 
 -- one that has taken, from the board before all takings to the one after all
 pub record Taken (b f : Board) (g : Going) : Type 0 where
@@ -44,7 +45,7 @@ pub record Taken (b f : Board) (g : Going) : Type 0 where
   pub from : g.from ≡ b.state g.channel
   pub listed : among channel_numbers g.channel ≡ true
   pub could : (x : ℕ) → asked b g.channel x ≡ true → (is_free (b.axis x) || owns b g.channel x) ≡ true
-  pub took : (x : ℕ) → among g.took x ≡ (asked b g.channel x && is_free (b.axis x))
+  pub took : (x : ℕ) → among g.took x ≡ (asked b g.channel x && not (owns b g.channel x))
   pub has : (x : ℕ) → asked b g.channel x ≡ true → f.axis x ≡ OwnedBy g.channel
   pub runs : f.state g.channel ≡ IsRunning g.grant
   pub grant : g.grant ≡ taker_grant b g.channel
@@ -64,10 +65,6 @@ none_taken b = record { each = λ g in_it. absurd in_it; kept = λ c out. refl; 
 owned_is : (a : Ownership) (c : ℕ) → is_this (owner_of a) c ≡ true → a ≡ OwnedBy c
 owned_is (OwnedBy d) c on = ap OwnedBy (eqb-true d c on)
 owned_is (FreeAt p) c on = no_truth false on refl
-
-free_owns : (a : Ownership) (c : ℕ) → is_free a ≡ true → is_this (owner_of a) c ≡ false
-free_owns (OwnedBy d) c on = no_truth false on refl
-free_owns (FreeAt p) c on = refl
 
 first_listed : (p : ℕ → Bool) (xs : List ℕ) (x : ℕ) → first_of (filter p xs) ≡ Some x → among xs x ≡ true
 first_listed p [] x e = let bad : ⊥ = cc in absurd bad
@@ -96,17 +93,13 @@ taken_other b c d other = rw other refl
 runs_on : (s : Doing) (g : Grant) → s ≡ IsRunning g → waits_for_axes s ≡ false
 runs_on s g e = ap waits_for_axes e
 
-take_free : (b : Board) (c x : ℕ) → among (axes_to_take b c) x ≡ (asked b c x && is_free (b.axis x))
-take_free b c x = among_kept (λ y. is_free (b.axis y)) (axes_asked (b.state c)) x
-
 -- after a taking a channel that waits owns what it owned
-owns_other : (b : Board) (c d x : ℕ) → (d == c) ≡ false → owns (after_taking b c) d x ≡ owns b d x
-owns_other b c d x other = elim (cases_Bool (among (axes_to_take b c) x)) [
+owns_other : (b : Board) (c d x : ℕ) → can_take b c ≡ true → (d == c) ≡ false → owns (after_taking b c) d x ≡ owns b d x
+owns_other b c d x can other = elim (cases_Bool (among (axes_to_take b c) x)) [
   | inr off ↦ ap (λ (a : Ownership). is_this (owner_of a) d) (kept_axis b c x off)
   | inl on ↦
-      let free = (and_parts (asked b c x) (is_free (b.axis x)) (sym (take_free b c x) ∙ on)).1 in
       ap (λ (a : Ownership). is_this (owner_of a) d) (taken_axis b c x on)
-      ∙ ne_eqb c d (λ e. no_truth (d == c) (eq-eqb d c (sym e)) other) ∙ sym (free_owns (b.axis x) d free)
+      ∙ ne_eqb c d (λ e. no_truth (d == c) (eq-eqb d c (sym e)) other) ∙ sym (free_is_not_own (b.axis x) d (taken_is_free b c x can on))
 ]
 
 -- what it can take after it, it can before, and it is the same
@@ -121,25 +114,22 @@ same_axis b c d x other can = elim (cases_Bool (among (axes_to_take b c) x)) [
       ]
 ]
 
-grant_owns : (b : Board) (c : ℕ) → ((x : ℕ) → asked b c x ≡ true → (is_free (b.axis x) || owns b c x) ≡ true) → (x : ℕ) → owns (with_its_axes b c) c x ≡ (asked b c x || owns b c x)
+grant_owns : (b : Board) (c x : ℕ) → owns (with_its_axes b c) c x ≡ (asked b c x || owns b c x)
 unfolding ownership_after_taking
-grant_owns b c can x = elim (cases_Bool (asked b c x)) [
-  | inr off ↦ rw (take_free b c x, off) refl
-  | inl on ↦ elim (cases_Bool (is_free (b.axis x))) [
-    | inl f ↦ rw (take_free b c x, on, f) (eq-eqb c c refl)
-    | inr n ↦ elim (or_cases (is_free (b.axis x)) (owns b c x) (can x on)) [
-      | inl f ↦ no_truth (is_free (b.axis x)) f n
-      | inr o ↦ rw (take_free b c x, on, n) o
-    ]
+grant_owns b c x = elim (cases_Bool (asked b c x)) [
+  | inr off ↦ rw (named_and_not_own b c x, off) refl
+  | inl on ↦ elim (cases_Bool (owns b c x)) [
+    | inl own ↦ rw (named_and_not_own b c x, on, own) own
+    | inr other ↦ rw (named_and_not_own b c x, on, other) (eq-eqb c c refl)
   ]
 ]
 
-grant_taken : (b : Board) (c : ℕ) → Zones b → ((x : ℕ) → asked b c x ≡ true → (is_free (b.axis x) || owns b c x) ≡ true) → grant_of_taker b c ≡ taker_grant b c
+grant_taken : (b : Board) (c : ℕ) → Zones b → grant_of_taker b c ≡ taker_grant b c
 unfolding grant_of_taker
-grant_taken b c zs can =
+grant_taken b c zs =
     grant_told (with_its_axes b c) (zones_with b c zs) c (positions_where (among (axes_to_take b c)) (λ x. free_position (b.axis x)))
-    ∙ ap (λ (f : ℕ → Bool). grant_by b.start c f (positions_where (among (axes_to_take b c)) (λ x. free_position (b.axis x))) b.is_on (b.program c)) (fun_ext (grant_owns b c can))
-    ∙ ap (λ (f : ℕ → Bool). grant_by b.start c (λ x. asked b c x || owns b c x) (positions_where f (λ x. free_position (b.axis x))) b.is_on (b.program c)) (fun_ext (take_free b c))
+    ∙ ap (λ (f : ℕ → Bool). grant_by b.start c f (positions_where (among (axes_to_take b c)) (λ x. free_position (b.axis x))) b.is_on (b.program c)) (fun_ext (grant_owns b c))
+    ∙ ap (λ (f : ℕ → Bool). grant_by b.start c (λ x. asked b c x || owns b c x) (positions_where f (λ x. free_position (b.axis x))) b.is_on (b.program c)) (fun_ext (named_and_not_own b c))
 
 pub positions_same : (f g : ℕ → Bool) (at bt : ℕ → ℤ) → ((x : ℕ) → f x ≡ g x) → ((x : ℕ) → g x ≡ true → at x ≡ bt x) → positions_where f at ≡ positions_where g bt
 positions_same f g at bt same there = ap (λ (h : ℕ → Option ℤ). map h axis_numbers) (fun_ext (λ x. each x (f x) (g x) (same x) (there x)))
@@ -151,48 +141,49 @@ positions_same f g at bt same there = ap (λ (h : ℕ → Option ℤ). map h axi
     each x false false s t = refl
 
 -- a grant after one taking is that before it, of another channel
-grant_later : (b : Board) (c d : ℕ) → (d == c) ≡ false → ((x : ℕ) → asked (after_taking b c) d x ≡ true → (is_free ((after_taking b c).axis x) || owns (after_taking b c) d x) ≡ true)
+grant_later : (b : Board) (c d : ℕ) → can_take b c ≡ true → (d == c) ≡ false
+    → ((x : ℕ) → asked (after_taking b c) d x ≡ true → (is_free ((after_taking b c).axis x) || owns (after_taking b c) d x) ≡ true)
     → taker_grant (after_taking b c) d ≡ taker_grant b d
-grant_later b c d other can =
+grant_later b c d takes other can =
     let state : (after_taking b c).state d ≡ b.state d = taken_other b c d other in
     let asks : (x : ℕ) → asked (after_taking b c) d x ≡ asked b d x = λ x. ap (λ (s : Doing). among (axes_asked s) x) state in
-    let both : (x : ℕ) → (asked (after_taking b c) d x && is_free ((after_taking b c).axis x)) ≡ (asked b d x && is_free (b.axis x)) = λ x.
-    elim (cases_Bool (asked (after_taking b c) d x)) [
-      | inl on ↦ ap (λ (t : Bool). t && is_free ((after_taking b c).axis x)) (asks x) ∙ ap (λ (a : Ownership). asked b d x && is_free a) (same_axis b c d x other (can x on))
-      | inr off ↦ rw (off, sym (asks x) ∙ off) refl
-    ] in
-    ap (λ (f : ℕ → Bool). grant_by b.start d f (positions_where (λ x. asked (after_taking b c) d x && is_free ((after_taking b c).axis x)) (λ x. free_position ((after_taking b c).axis x))) b.is_on (b.program d))
-    (fun_ext λ x. ap (λ (t : Bool). t || owns (after_taking b c) d x) (asks x) ∙ ap (λ (t : Bool). asked b d x || t) (owns_other b c d x other))
+    let both : (x : ℕ) → (asked (after_taking b c) d x && not (owns (after_taking b c) d x)) ≡ (asked b d x && not (owns b d x)) = λ x.
+    ap₂ (λ (s t : Bool). s && not t) (asks x) (owns_other b c d x takes other) in
+    ap (λ (f : ℕ → Bool). grant_by b.start d f (positions_where (λ x. asked (after_taking b c) d x && not (owns (after_taking b c) d x)) (λ x. free_position ((after_taking b c).axis x))) b.is_on (b.program d))
+    (fun_ext λ x. ap₂ (λ (s t : Bool). s || t) (asks x) (owns_other b c d x takes other))
     ∙ ap (λ (at : List (Option ℤ)). grant_by b.start d (λ x. asked b d x || owns b d x) at b.is_on (b.program d))
-    (positions_same (λ x. asked (after_taking b c) d x && is_free ((after_taking b c).axis x)) (λ x. asked b d x && is_free (b.axis x)) (λ x. free_position ((after_taking b c).axis x)) (λ x. free_position (b.axis x))
-    both (λ x on. ap free_position (same_axis b c d x other (can x (asks x ∙ (and_parts (asked b d x) (is_free (b.axis x)) on).0)))))
+    (positions_same (λ x. asked (after_taking b c) d x && not (owns (after_taking b c) d x)) (λ x. asked b d x && not (owns b d x)) (λ x. free_position ((after_taking b c).axis x)) (λ x. free_position (b.axis x))
+    both (λ x on. ap free_position (same_axis b c d x other (can x (asks x ∙ (and_parts (asked b d x) (not (owns b d x)) on).0)))))
+
+-- what one takes was free before all takings
+pub taken_was_free : (b f : Board) (g : Going) (x : ℕ) → Taken b f g → among g.took x ≡ true → is_free (b.axis x) ≡ true
+taken_was_free b f g x w took =
+    let parts = and_parts (asked b g.channel x) (not (owns b g.channel x)) (sym (w.took x) ∙ took) in
+    elim (or_cases (is_free (b.axis x)) (owns b g.channel x) (w.could x parts.0)) [
+      | inl free ↦ free
+      | inr own ↦ no_truth (not (owns b g.channel x)) parts.1 (ap not own)
+    ]
 
 -- the first taker, and the others
 first_taken : (b : Board) (c : ℕ) (t : Takings) → Zones b → next_taker b ≡ Some c → AllTaken (after_taking b c) t → Taken b t.board (going_of_taker b c)
 first_taken b c t zs is rest =
     let can = first_passes (can_take b) channel_numbers c is in
     let parts = and_parts (waits_for_axes (b.state c)) (list_all (λ x. is_free (b.axis x) || owns b c x) (axes_asked (b.state c))) can in
-    let could : (x : ℕ) → asked b c x ≡ true → (is_free (b.axis x) || owns b c x) ≡ true = λ x on. passes (λ y. is_free (b.axis y) || owns b c y) (axes_asked (b.state c)) x parts.1 on in
     record {
       waits = parts.0;
       from = refl;
       listed = first_listed (can_take b) channel_numbers c is;
-      could = could;
-      took = take_free b c;
+      could = λ x on. may_take b c x can on;
+      took = named_and_not_own b c;
       has = λ x on.
-          let mid : (after_taking b c).axis x ≡ OwnedBy c = elim (cases_Bool (is_free (b.axis x))) [
-            | inl f ↦ taken_axis b c x (take_free b c x ∙ and_from (asked b c x) (is_free (b.axis x)) on f)
-            | inr n ↦ elim (or_cases (is_free (b.axis x)) (owns b c x) (could x on)) [
-              | inl f ↦ no_truth (is_free (b.axis x)) f n
-              | inr o ↦ kept_axis b c x (take_free b c x ∙ rw (on, n) refl) ∙ owned_is (b.axis x) c o
-            ]
+          let mid : (after_taking b c).axis x ≡ OwnedBy c = elim (cases_Bool (owns b c x)) [
+            | inl own ↦ kept_axis b c x (named_and_not_own b c x ∙ rw (on, own) refl) ∙ owned_is (b.axis x) c own
+            | inr other ↦ taken_axis b c x (named_and_not_own b c x ∙ rw (on, other) refl)
           ] in
           elim (rest.axis x) [
             | inl e ↦ e ∙ mid
             | inr g ↦
-                let w = rest.each g.0 g.1.0 in
-                let free = (and_parts (asked (after_taking b c) g.0.channel x) (is_free ((after_taking b c).axis x)) (sym (w.took x) ∙ g.1.1)).1 in
-                no_truth (is_free (OwnedBy c)) (sym (ap is_free mid) ∙ free) refl
+                no_truth (is_free (OwnedBy c)) (sym (ap is_free mid) ∙ taken_was_free (after_taking b c) t.board g.0 x (rest.each g.0 g.1.0) g.1.1) refl
           ];
       runs = rest.kept c (elim (cases_Bool (among (channels_in t.goings) c)) [
         | inr off ↦ off
@@ -201,11 +192,11 @@ first_taken b c t zs is rest =
             let w = (rest.each g.0 g.1.0).waits in
             no_truth (waits_for_axes ((after_taking b c).state c)) (ap (λ (d : ℕ). waits_for_axes ((after_taking b c).state d)) (sym g.1.1) ∙ w) (runs_on ((after_taking b c).state c) (grant_of_taker b c) (taken_runs b c))
       ]) ∙ taken_runs b c;
-      grant = grant_taken b c zs could;
+      grant = grant_taken b c zs;
     }
 
-later_taken : (b : Board) (c : ℕ) (t : Takings) (g : Going) → AllTaken (after_taking b c) t → IsOf g t.goings → Taken b t.board g
-later_taken b c t g rest in_it =
+later_taken : (b : Board) (c : ℕ) (t : Takings) (g : Going) → can_take b c ≡ true → AllTaken (after_taking b c) t → IsOf g t.goings → Taken b t.board g
+later_taken b c t g takes rest in_it =
     let w = rest.each g in_it in
     let other : (g.channel == c) ≡ false = elim (cases_Bool (g.channel == c)) [
       | inr off ↦ off
@@ -219,21 +210,18 @@ later_taken b c t g rest in_it =
       listed = w.listed;
       could = λ x on.
           let can = w.could x (asks x on) in
-          ap (λ (a : Ownership). is_free a || owns b g.channel x) (sym (same_axis b c g.channel x other can)) ∙ ap (λ (t : Bool). is_free ((after_taking b c).axis x) || t) (sym (owns_other b c g.channel x other)) ∙ can;
-      took = λ x. w.took x ∙ elim (cases_Bool (asked b g.channel x)) [
-        | inl on ↦ ap (λ (s : Doing). among (axes_asked s) x && is_free ((after_taking b c).axis x)) state ∙ ap (λ (a : Ownership). asked b g.channel x && is_free a) (same_axis b c g.channel x other (w.could x (asks x on)))
-        | inr off ↦ ap (λ (s : Doing). among (axes_asked s) x && is_free ((after_taking b c).axis x)) state ∙ rw off refl
-      ];
+          ap (λ (a : Ownership). is_free a || owns b g.channel x) (sym (same_axis b c g.channel x other can)) ∙ ap (λ (t : Bool). is_free ((after_taking b c).axis x) || t) (sym (owns_other b c g.channel x takes other)) ∙ can;
+      took = λ x. w.took x ∙ ap₂ (λ (s : Doing) (t : Bool). among (axes_asked s) x && not t) state (owns_other b c g.channel x takes other);
       has = λ x on. w.has x (asks x on);
       runs = w.runs;
-      grant = w.grant ∙ grant_later b c g.channel other w.could;
+      grant = w.grant ∙ grant_later b c g.channel takes other w.could;
     }
 
 more_taken : (b : Board) (c : ℕ) (t : Takings) → Zones b → next_taker b ≡ Some c → AllTaken (after_taking b c) t → AllTaken b (record { goings = going_of_taker b c ∷ t.goings; board = t.board })
 more_taken b c t zs is rest = record {
   each = λ g in_it. elim in_it [
     | inl here ↦ subst_taken (sym here) (first_taken b c t zs is rest)
-    | inr later ↦ later_taken b c t g rest later
+    | inr later ↦ later_taken b c t g (first_passes (can_take b) channel_numbers c is) rest later
   ];
   kept = λ d out.
       let parts = or_off (c == d) (among (channels_in t.goings) d) out in

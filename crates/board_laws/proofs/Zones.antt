@@ -1,14 +1,15 @@
 -- A zone goes with its axes, on boards.
 use Rattle.axis_sets.specs.declared.limits.TheConstants.{CHANNEL_LIMIT}
 use Rattle.std.proofs.Math.Path.{fun_ext}
-use Rattle.std.proofs.Common.{◌≡◌, ℕ, ℤ, zero, suc, ◌==◌, ◌&&◌, Bool, true, false, cond, List, [], ◌∷◌, map, Option, None, Some, refl, sym, ap, ap₂, ◌∙◌}
+use Rattle.std.proofs.Common.{◌≡◌, ℕ, ℤ, zero, suc, ◌==◌, ◌&&◌, Bool, true, false, cond, List, [], ◌∷◌, map, Option, None, Some, refl, sym, ap, ◌∙◌}
 use Rattle.std.proofs.lemmas.Bool.{eq-eqb, or_left}
 use Rattle.axis_sets.specs.Sets.{has, members_of}
 use Rattle.axis_sets.proofs.SetLaws.{list_any-members_of}
-use Rattle.sync_types.proofs.BoardTests.{by_test, not_not, among_kept, some_alike, none_pass, whole_alike, whole_found}
+use Rattle.sync_types.proofs.BoardTests.{by_test, not_not, some_alike, none_pass, whole_alike, whole_found}
+use Rattle.sync_types.proofs.TakenAxes.{taken_alike}
 use Rattle.sync_types.specs.BoardActions.{carries, channels_to_start, axes_to_free, ownership_after, holder_after, state_after_alarm, state_after_action, state_of_actor, after_alarm, after_effects, after_action, after_part, after_own_part}
 use Rattle.sync_types.specs.BoardAlarms.{alarm_of, named_axes, splits_a_zone}
-use Rattle.sync_types.specs.Boards.{State as Doing, Ownership, OwnedBy, FreeAt, Board, among, axis_numbers, zone_numbers, is_this, owner_of, is_free, owns, ownership_of, grant_with, first_board, first_state}
+use Rattle.sync_types.specs.Boards.{State as Doing, Ownership, OwnedBy, FreeAt, Board, among, axis_numbers, zone_numbers, is_this, owner_of, owns, ownership_of, grant_with, first_board, first_state}
 use Rattle.sync_types.specs.GoingOn.{first_of, axes_asked, goers_at_once, state_after_goes, after_goes, axes_to_take, ownership_after_taking, holder_after_taking, state_after_taking, with_its_axes, after_taking, takings, takings_from, next_taker}
 use Rattle.sync_types.specs.Starts.{axes_of_zone, first_owner, first_position, first_holder, runs_at_first, IsSound}
 use Rattle.sync_types.specs.Turns.{after_step}
@@ -140,25 +141,10 @@ zones_goes b k = record {
   asks = λ d z x y on_x on_y. by_test (AsksAlike x y) (among (goers_at_once b) d) _ _ (λ goes. refl) (λ stays. k.asks d z x y on_x on_y);
 }
 
-abbrev is_no_one : Option ℕ → Bool
-is_no_one (Some c) = false
-is_no_one None = true
-
-free_of : (a : Ownership) → is_free a ≡ is_no_one (owner_of a)
-free_of (OwnedBy c) = refl
-free_of (FreeAt p) = refl
-
-taken_alike : (b : Board) (c z x y : ℕ) → Zones b → has (axes_of_zone b.start z) x ≡ true → has (axes_of_zone b.start z) y ≡ true → among (axes_to_take b c) x ≡ among (axes_to_take b c) y
-taken_alike b c z x y k on_x on_y =
-    among_kept (λ a. is_free (b.axis a)) (axes_asked (b.state c)) x
-    ∙ ap₂ (λ p q. p && q) (k.asks c z x y on_x on_y)
-    (free_of (b.axis x) ∙ ap is_no_one (k.owner z x on_x ∙ sym (k.owner z y on_y)) ∙ sym (free_of (b.axis y)))
-    ∙ sym (among_kept (λ a. is_free (b.axis a)) (axes_asked (b.state c)) y)
-
 taken_zone : (b : Board) (c z x : ℕ) → Zones b → has (axes_of_zone b.start z) x ≡ true → owner_of (ownership_after_taking b c x) ≡ holder_after_taking b c z
 unfolding ownership_after_taking holder_after_taking
 taken_zone b c z x k on_x = goes_to (among (axes_to_take b c) x) (carries b (axes_to_take b c) z) (b.axis x) (b.holder z) c
-    (some_alike (has (axes_of_zone b.start z)) (axes_to_take b c) x on_x (λ y on_y. taken_alike b c z y x k on_y on_x))
+    (some_alike (has (axes_of_zone b.start z)) (axes_to_take b c) x on_x (λ y on_y. taken_alike b c y x (k.asks c z y x on_y on_x) (k.owner z y on_y ∙ sym (k.owner z x on_x))))
     (k.owner z x on_x)
 
 taken_bare : (b : Board) (c z : ℕ) → Zones b → first_of (members_of (axes_of_zone b.start z)) ≡ None → holder_after_taking b c z ≡ first_holder b.start z

@@ -6,12 +6,13 @@ use Rattle.job_types.specs.Job.{ProgramView}
 use Rattle.nc_blocks.specs.Statement.{BlockView, Statement}
 use Rattle.nc_subprograms.specs.declared.Place.{Place}
 use Rattle.channel_machine.specs.declared.levels.Levels.{Levels}
+use Rattle.sync_types.specs.Items.{is_motion}
 use Rattle.sync_types.specs.declared.Item.{Item}
 use Rattle.sync_types.specs.declared.Step.{Step}
 use Rattle.channel_machine.specs.Kept.{Advances, IsThere, Keeps, StateView, deeds_of}
 use Rattle.channel_machine.specs.Levels.{lines_of}
 use Rattle.channel_machine.specs.Passing.{Comes, IsPassing, IsRest, NoneComes}
-use Rattle.channel_machine.specs.Run.{SurroundingsView, Executed, Deed, Channel, SegmentView, blocks_of, does_move, is_motion, item_of, segment_of}
+use Rattle.channel_machine.specs.Run.{SurroundingsView, Executed, Deed, Channel, SegmentView, blocks_of, does_move, item_of, segment_of}
 use Rattle.channel_machine.proofs.Pasts.{count-did}
 use Rattle.channel_machine.proofs.PlacedChannels.{placed_segment}
 

@@ -1,10 +1,10 @@
 -- Meaning. A segment of a channel's run, told over the list of what the channel has done: the blocks that it has executed, and the grants that it got.
-use Rattle.std.specs.Prelude.{⊤, ℕ, zero, suc, ◌-◌, ◌==◌, ℤ, Bool, false, if◌then◌else◌, List, [], ◌∷◌, ◌++◌, length, map, fold, filter_map, is_some, slice_get, Option, None, Some, option_and_then, unwrap_or, slice_set, Result, Ok, Err}
+use Rattle.std.specs.Prelude.{⊤, ℕ, zero, suc, ◌-◌, ◌==◌, ℤ, Bool, false, if◌then◌else◌, List, [], ◌∷◌, ◌++◌, length, map, fold, filter_map, slice_get, Option, None, Some, option_and_then, unwrap_or, slice_set, Result, Ok, Err}
 use Rattle.std.specs.List.{list_any, range_with_len}
 use Rattle.std.specs.Option.{option_map_or, option_to_list}
 use Rattle.axis_sets.specs.Sets.{has}
 use Rattle.axis_sets.specs.Positions.{position_of, stands}
-use Rattle.sync_types.specs.Items.{end_in, motion_of}
+use Rattle.sync_types.specs.Items.{end_in, is_motion}
 use Rattle.block_effects.specs.Effects.{Course, Goes, Ends, Calls, Effect, SituationView, group_words, effect_of}
 use Rattle.block_effects.specs.Words.{SetupView, parameter_in, zeros}
 use Rattle.frames.specs.Maps.{Map}
@@ -139,10 +139,6 @@ item_by line (Some (Switch zone on)) motion = Some (record { line = line; part =
 
 abbrev pub item_of : Executed → Option Item
 item_of done = item_by done.line done.request done.effect.item
-
--- an item is a motion
-abbrev pub is_motion : Item → Bool
-is_motion item = is_some (motion_of item)
 
 -- an executed block moves axes
 abbrev pub does_move : Executed → Bool

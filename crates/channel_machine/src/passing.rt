@@ -9,6 +9,7 @@ ghost use Rattle.channel_machine.specs.Passing.{Comes, IsPassing, NoneComes};
 ghost use Rattle.channel_machine.specs.Run as model;
 ghost use Rattle.channel_machine.specs.Run.{SurroundingsView, Channel};
 ghost use Rattle.job_lines.specs.declared.limits.TheConstants.{PROGRAM_LIMIT};
+ghost use Rattle.sync_types.specs.Items.{is_motion};
 
 use crate::limits::BLOCK_LIMIT;
 use crate::local::{Local, State};
@@ -16,7 +17,7 @@ use crate::run::{NextBlock, advance, find_block};
 use job_types::Job;
 use out_of_memory::NoMemory;
 use std::alloc::Global;
-use sync_types::{Item, Part, Step};
+use sync_types::{Item, Step};
 
 /// What came of the block at which control stood.
 #[derive(Clone, Copy)]
@@ -29,22 +30,12 @@ pub struct Passing {
     pub ends: bool,
 }
 
-/// Whether an item is a motion.
-fn is_motion(item: &Item) -> bool
-    ensures { result ≡ model.is_motion item.now }
-{
-    match &item.part {
-        Part::Move(_) => true,
-        Part::Switch(_, _) => false,
-    }
-}
-
 /// Whether one of these items is a motion.
 fn has_motion(items: &[Item]) -> bool
-    ensures { result ≡ list_any model.is_motion items.now }
+    ensures { result ≡ list_any is_motion items.now }
 {
     for item in items {
-        if is_motion(item) {
+        if item.is_motion() {
             return true;
         }
     }

@@ -9,21 +9,7 @@ use axis_sets::ChannelId;
 use coord_core::Board;
 use out_of_memory::NoMemory;
 use std::alloc::{AllocError, Global};
-use sync_types::{Entry, Grant, StartState, Step};
-
-/// The channel that acts in an entry.
-fn acting_in(entry: &Entry) -> ChannelId
-    ensures { result ≡ entry.now.channel }
-{
-    entry.channel
-}
-
-/// Its step there.
-fn step_in(entry: &Entry) -> Step
-    ensures { result ≡ entry.now.step }
-{
-    entry.step
-}
+use sync_types::{Entry, Grant, StartState};
 
 /// Whether the channel that acts is this one.
 fn is_own(acting: ChannelId, channel: ChannelId) -> bool
@@ -62,12 +48,12 @@ pub fn grants_in(
     let mut board = Board::new(alloc, start)?;
     let mut grants = Vec::new(alloc);
     for entry in entries {
-        let acting = acting_in(entry);
+        let acting = entry.channel();
         let Some(grant) = board.grant_of(acting) else {
             return Ok(grants);
         };
         push_own(&mut grants, channel, acting, &grant)?;
-        board.act(acting, step_in(entry))?;
+        board.act(acting, *entry.step())?;
     }
     Ok(grants)
 }

@@ -1,6 +1,5 @@
 //! The verdict on a whole run of a job.
-ghost use Rattle.std.specs.Prelude.{◌≡◌, ◌<◌, ◌≤◌, ◌^◌, All, IfOk, length, sum_by};
-ghost use Rattle.axis_sets.specs.declared.limits.TheConstants.{CHANNEL_LIMIT};
+ghost use Rattle.std.specs.Prelude.{◌≡◌, ◌<◌, ◌^◌, All, IfOk, length, sum_by};
 ghost use Rattle.clash_check.specs.FirstAnswer.{first_some};
 ghost use Rattle.clash_check.specs.Meetings.{verdict_by_names};
 ghost use Rattle.clash_check.specs.Verdicts as model;
@@ -21,25 +20,8 @@ use out_of_memory::NoMemory;
 use std::alloc::Global;
 use std::thread::Threads;
 use stop_verdicts::stopped_verdict;
-use sync_types::{Entry, PlaceName, Run, Verdict};
+use sync_types::{PlaceName, Run, Verdict};
 use zone_stretches::{Stretches, ascents_of, lists_of};
-
-/// How many channels go on in a step: at most as many as there may be.
-fn goes_in(entry: &Entry) -> usize
-    ensures value { result ≡ length entry.now.goes }
-    ensures few { result ≤ CHANNEL_LIMIT }
-{
-    entry.goes.len()
-}
-
-/// Sees that in each step at most as many channels go on as there may be.
-fn see_goes(run: &Run)
-    ensures { All (λ e. length e.goes ≤ CHANNEL_LIMIT) run.now.entries }
-{
-    for entry in run.entries() {
-        let _count = goes_in(entry);
-    }
-}
 
 /// UNDECIDED where more pairs of boxes are to be compared than the job allows.
 fn budget_verdict(job: &Job, run: &Run, stretches: &Stretches, clocks: &Clocks) -> Option<Verdict>
@@ -49,7 +31,7 @@ fn budget_verdict(job: &Job, run: &Run, stretches: &Stretches, clocks: &Clocks) 
     ensures { (later : Verdict) → model.or_else result later
         ≡ model.or_else (model.budget_verdict (is_before_in clocks.now.rows) job.now stretches.now) later }
 {
-    see_goes(run);
+    run.see_goes();
     let count = count(job, stretches, clocks);
     if count > u64::from(job.budget) {
         Some(Verdict::Undecided {

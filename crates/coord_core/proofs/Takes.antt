@@ -10,7 +10,7 @@ use Rattle.axis_sets.specs.Positions.{position_of}
 use Rattle.axis_sets.specs.Sets.{has, members_of}
 use Rattle.axis_sets.specs.declared.limits.TheConstants.{AXIS_LIMIT, CHANNEL_LIMIT}
 use Rattle.coord_core.proofs.Acts.{same_boards}
-use Rattle.coord_core.proofs.GrantLaws.{positions_listed}
+use Rattle.coord_core.proofs.GrantLaws.{owned_alike, positions_listed}
 use Rattle.coord_core.proofs.ZoneLaws.{holder_handed, on_handed, axes_handed, numbers_handed}
 use Rattle.coord_core.specs.Tables.{activity_at, board_in, state_in, IsTable, ownership_in, holder_in, is_on_in, axes_in, zone_handed}
 use Rattle.coord_core.specs.declared.activities.Activity.{Activity}
@@ -19,7 +19,7 @@ use Rattle.coord_core.specs.declared.table.Table.{Table}
 use Rattle.coord_core.specs.declared.zones.ZoneState.{ZoneState}
 use Rattle.set_laws.proofs.MemberLaws.{list_all-at_member}
 use Rattle.sync_types.proofs.BoardTests.{no_truth}
-use Rattle.sync_types.specs.Boards.{State, IsRunning, Board, OwnedBy, among, is_free, grant_with}
+use Rattle.sync_types.specs.Boards.{State, IsRunning, Board, OwnedBy, among, grant_with, is_this, owner_of}
 use Rattle.sync_types.specs.GoingOn.{go_of, axes_asked, axes_to_take, free_position, ownership_after_taking, holder_after_taking, with_its_axes, grant_of_taker, state_after_taking, after_taking, going_of_taker, next_taker, Takings, takings, takings_from}
 use Rattle.sync_types.specs.Starts.{stand_once}
 use Rattle.sync_types.specs.declared.Grant.{Grant}
@@ -53,13 +53,6 @@ filter_members s t p sizes is =
     ∙ ap (λ (q : ℕ → Bool). filter q (range_with_len 0 (length s))) (fun_ext (λ x. sym (is x)))
     ∙ ap (λ (n : ℕ). filter (has t) (range_with_len 0 n)) (sym sizes)
 
--- of axes that it may take, those are free that it has not
-free_where : (member : Bool) (s : Option AxisState) (c : ℕ) → (member ≡ true → may_take s c ≡ true) → (member && not (is_owned_by s c)) ≡ (member && is_free (ownership_in s))
-free_where false s c may = refl
-free_where true (Some (Owned owner)) c may = ap not (may refl)
-free_where true (Some (Free position)) c may = refl
-free_where true None c may = no_truth false (may refl) refl
-
 taken_where : (member : Bool) (s : Option AxisState) (c : ℕ) → (member ≡ true → may_take s c ≡ true) → (member && may_be_taken s) ≡ (member && not (is_owned_by s c))
 taken_where false s c may = refl
 taken_where true (Some (Owned owner)) c may = sym (ap not (may refl))
@@ -85,9 +78,9 @@ has_taken t channels c axes own taken line owners at k x = k.others x ∙ ap (λ
 to_take : (t : Table) (channels : List Activity) (c : ℕ) (axes own taken : List Bool) (line : ℕ) (owners : List (Option AxisState)) (at : List (Option ℤ)) → Takes t channels c axes own taken line owners at
     → axes_to_take (board_in t channels) c ≡ members_of taken
 to_take t channels c axes own taken line owners at k =
-    ap (λ (a : Activity). filter (λ x. is_free (ownership_in (axis_state t.owners x))) (axes_asked (state_in c a))) k.waits
-    ∙ filter_members axes taken (λ x. is_free (ownership_in (axis_state t.owners x))) (k.taken_size ∙ sym k.size)
-    (λ x. has_taken t channels c axes own taken line owners at k x ∙ free_where (has axes x) (axis_state t.owners x) c (may_each t channels c axes own taken line owners at k x))
+    ap (λ (a : Activity). filter (λ x. not (is_this (owner_of (ownership_in (axis_state t.owners x))) c)) (axes_asked (state_in c a))) k.waits
+    ∙ filter_members axes taken (λ x. not (is_this (owner_of (ownership_in (axis_state t.owners x))) c)) (k.taken_size ∙ sym k.size)
+    (λ x. has_taken t channels c axes own taken line owners at k x ∙ ap (λ (b : Bool). has axes x && not b) (owned_alike (axis_state t.owners x) c))
 
 among_taken : (t : Table) (channels : List Activity) (c : ℕ) (axes own taken : List Bool) (line : ℕ) (owners : List (Option AxisState)) (at : List (Option ℤ)) → Takes t channels c axes own taken line owners at
     → (x : ℕ) → has taken x ≡ among (axes_to_take (board_in t channels) c) x

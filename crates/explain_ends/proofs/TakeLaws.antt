@@ -2,14 +2,15 @@
 use Rattle.axis_sets.specs.declared.limits.TheConstants.{CHANNEL_LIMIT, CHANNEL_PLACES}
 use Rattle.std.proofs.Common.{◌≡◌, ◌∙◌, ◌⊎◌, ℕ, zero, suc, ◌+◌, ◌<◌, ◌≤◌, ◌==◌, ◌||◌, Bool, true, false, inl, inr, List, [], ◌∷◌, ◌++◌, map, filter, Option, None, Some, if◌then◌else◌, refl, sym, ap, subst, arith}
 use Rattle.std.specs.List.{range_with_len}
-use Rattle.std.proofs.lemmas.Bool.{and_parts, cases_Bool, eqb-true, eq-eqb, or_cases}
+use Rattle.std.proofs.lemmas.Bool.{cases_Bool, eqb-true, eq-eqb, or_cases}
 use Rattle.order_clocks.specs.Chains.{IsIn}
 use Rattle.order_clocks.specs.Happenings.{axes_freed}
-use Rattle.sync_types.proofs.BoardTests.{among_kept, no_truth}
+use Rattle.sync_types.proofs.BoardTests.{first_passes, no_truth}
+use Rattle.sync_types.proofs.TakenAxes.{taken_is_free}
 use Rattle.sync_types.specs.BoardActions.{after_own_part, after_part, axes_to_free, channels_started, ownership_after}
 use Rattle.sync_types.specs.BoardAlarms.{alarm_of}
 use Rattle.sync_types.specs.Boards.{Board, OwnedBy, among, channel_numbers, is_free, owner_of}
-use Rattle.sync_types.specs.GoingOn.{Going, Takings, after_goes, after_taking, all_takings, axes_asked, axes_to_take, can_take, first_of, goers_at_once, going_at_once, going_of_start, going_of_taker, goings_on, next_taker, ownership_after_taking, takings, takings_from}
+use Rattle.sync_types.specs.GoingOn.{Going, Takings, after_goes, after_taking, all_takings, axes_to_take, can_take, first_of, goers_at_once, going_at_once, going_of_start, going_of_taker, goings_on, next_taker, ownership_after_taking, takings, takings_from}
 use Rattle.sync_types.specs.Turns.{after_step, goings_in_step}
 use Rattle.sync_types.specs.declared.Step.{Step}
 
@@ -22,9 +23,6 @@ taken_axis b c x on = rw on refl
 kept_axis : (b : Board) (c x : ℕ) → among (axes_to_take b c) x ≡ false → (after_taking b c).axis x ≡ b.axis x
 unfolding ownership_after_taking
 kept_axis b c x off = rw off refl
-
-was_free : (b : Board) (c x : ℕ) → among (axes_to_take b c) x ≡ true → is_free (b.axis x) ≡ true
-was_free b c x on = (and_parts (among (axes_asked (b.state c)) x) (is_free (b.axis x)) (sym (among_kept (λ y. is_free (b.axis y)) (axes_asked (b.state c)) x) ∙ on)).1
 
 free_later : (b : Board) (c x : ℕ) → is_free ((after_taking b c).axis x) ≡ true → (among (axes_to_take b c) x ≡ false) × (is_free (b.axis x) ≡ true)
 free_later b c x free = elim (cases_Bool (among (axes_to_take b c) x)) [
@@ -76,7 +74,7 @@ one_takes b c t is rest = record {
       rest.kept x (λ h there took. none h (inr there) took)
       ∙ ap owner_of (kept_axis b c x (false_by (among (axes_to_take b c) x) (λ on. none (going_of_taker b c) (inl refl) on)));
   free = λ g x inside on. elim inside [
-    | inl here ↦ was_free b c x (subst (λ (h : Going). among h.took x ≡ true) here on)
+    | inl here ↦ taken_is_free b c x (first_passes (can_take b) channel_numbers c is) (subst (λ (h : Going). among h.took x ≡ true) here on)
     | inr there ↦ (free_later b c x (rest.free g x there on)).1
   ];
   listed = λ g inside. elim inside [

@@ -1,6 +1,7 @@
 //! What a picture is made of, and what is apart in time from what is looked at.
 ghost use Rattle.std.specs.Prelude.{◌≡◌, ◌||◌};
-ghost use Rattle.order_clocks.specs.Tells.{is_before_in, is_same_event};
+ghost use Rattle.order_clocks.specs.Tells.{is_before_in};
+ghost use Rattle.sync_types.specs.Events.{is_same_event};
 ghost use Rattle.zone_stretches.specs.Overlaps.{is_open_at};
 ghost use Rattle.explain_pictures.specs.Focus as model;
 

@@ -1,11 +1,10 @@
 -- Meaning. Which execution of its block a motion is.
-use Rattle.std.specs.Prelude.{ℕ, ◌+◌, ◌-◌, ◌^◌, ◌==◌, ◌&&◌, min, Bool, true, false, if◌then◌else◌, List, [], length, take, slice_get, slice_index_or, Option, option_map}
+use Rattle.std.specs.Prelude.{ℕ, ◌+◌, ◌-◌, ◌^◌, ◌==◌, ◌&&◌, min, Bool, if◌then◌else◌, List, [], length, take, slice_get, slice_index_or, Option, option_map}
 use Rattle.std.specs.List.{count_by, range_with_len, sum_by}
 use Rattle.std.specs.Option.{option_and_then, option_map_or}
+use Rattle.sync_types.specs.Items.{is_motion}
 use Rattle.sync_types.specs.Views.{RunView}
 use Rattle.sync_types.specs.declared.Item.{Item}
-use Rattle.sync_types.specs.declared.Part.{Part}
-use Rattle.sync_types.specs.declared.Part.TheVariants.{Move, Switch}
 use Rattle.explain_places.specs.declared.executions.Execution.{Execution}
 use Rattle.explain_places.specs.declared.place.Place.{Place}
 
@@ -13,13 +12,9 @@ use Rattle.explain_places.specs.declared.place.Place.{Place}
 abbrev pub capped : ℕ → ℕ
 capped n = min n (2 ^ 64 - 1)
 
-abbrev pub is_move : Part → Bool
-is_move (Move motion) = true
-is_move (Switch zone on) = false
-
 -- a motion of a block in this line
 abbrev pub moves_at : ℕ → Item → Bool
-moves_at line item = item.line == line && is_move item.part
+moves_at line item = item.line == line && is_motion item
 
 -- how many of these are
 unfoldable pub motions_at : ℕ → List Item → ℕ

@@ -1,11 +1,11 @@
 -- Meaning. What a channel does during a box of a zone.
-use Rattle.std.specs.Prelude.{ℕ, ◌-◌, ◌==◌, Bool, true, false, List, [], ◌++◌, if◌then◌else◌, slice_get, slice_index_or, Option, None, Some, codes}
+use Rattle.std.specs.Prelude.{ℕ, ◌==◌, Bool, true, false, List, [], ◌++◌, if◌then◌else◌, Option, None, Some, codes}
 use Rattle.std.specs.Fmt.{decimal}
 use Rattle.std.specs.Option.{option_and_then, option_map_or}
 use Rattle.job_types.specs.Job.{JobView}
 use Rattle.job_types.specs.Zones.{zone_line}
 use Rattle.path_geometry.specs.declared.motion.Motion.{Motion}
-use Rattle.sync_types.specs.Items.{motion_of}
+use Rattle.sync_types.specs.Items.{motion_at}
 use Rattle.sync_types.specs.Views.{RunView}
 use Rattle.sync_types.specs.declared.verdicts.StretchKind.{StretchKind}
 use Rattle.sync_types.specs.declared.verdicts.StretchKind.TheVariants.{Idle, Run, Hold, End, Free}
@@ -14,10 +14,6 @@ use Rattle.explain_places.specs.Lines.{block_text, channel_text}
 use Rattle.explain_places.specs.Motions.{motion_text}
 use Rattle.explain_places.specs.declared.executions.Execution.{Execution}
 use Rattle.explain_places.specs.declared.place.Place.{Place}
-
--- the motion of a place of an entry, counted from 1
-abbrev pub motion_at : RunView → ℕ → ℕ → Option Motion
-motion_at run entry place = option_and_then motion_of (slice_get (slice_index_or run.items entry []) (place - 1))
 
 -- the motion of a box; none where it stands
 abbrev pub place_motion : RunView → Place → Option Motion

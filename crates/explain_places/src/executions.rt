@@ -6,7 +6,7 @@ ghost use Rattle.sync_types.specs.Views.{EntryView};
 
 use crate::place::Place;
 use axis_sets::ChannelId;
-use sync_types::{Entry, Item, Part, Run};
+use sync_types::{Entry, Item, Run};
 
 /// Which execution of a block is meant, counted from 1, and how many there are.
 #[derive(Clone, Copy)]
@@ -17,21 +17,11 @@ pub struct Execution {
     pub of: u64,
 }
 
-/// Whether a block moves axes.
-fn is_move(part: &Part) -> bool
-    ensures { result ≡ model.is_move part.now }
-{
-    match part {
-        Part::Move(_) => true,
-        Part::Switch(_, _) => false,
-    }
-}
-
 /// Whether an item is a motion of a block in this line.
 fn moves_at(item: &Item, line: u32) -> bool
     ensures { result ≡ model.moves_at line item.now }
 {
-    item.line == line && is_move(&item.part)
+    item.line == line && item.is_motion()
 }
 
 /// How many of these items are motions of a block in this line.
@@ -49,13 +39,6 @@ fn count_at(items: &[Item], line: u32) -> usize
     count
 }
 
-/// Whether an entry is of a channel.
-fn is_of(entry: &Entry, channel: ChannelId) -> bool
-    ensures { result ≡ (entry.now.channel == channel) }
-{
-    entry.channel == channel
-}
-
 /// How many motions of a block in this line an entry has, where it is of the channel.
 #[tactic(auto, unfolding(crate::specs::Executions::motions_in))]
 fn count_in(run: &Run, channel: ChannelId, line: u32, place: usize) -> usize
@@ -63,7 +46,7 @@ fn count_in(run: &Run, channel: ChannelId, line: u32, place: usize) -> usize
 {
     match run.entries.get(place) {
         Some(entry) => {
-            if is_of(entry, channel) {
+            if entry.is_of(channel) {
                 count_at(run.items_at(place), line)
             } else {
                 0
@@ -122,7 +105,7 @@ fn is_at(entries: &[Entry], place: usize, channel: ChannelId) -> bool
     requires { place < length entries.now }
     ensures { (e : EntryView) → result ≡ ((slice_index_or entries.now place e).channel == channel) }
 {
-    is_of(&entries[place], channel)
+    entries[place].is_of(channel)
 }
 
 /// The place of the last entry of a channel up to and with this one; none where it has none.

@@ -1,10 +1,10 @@
 //! Boxes of zones, and what is told of them.
-ghost use Rattle.std.specs.Prelude.{◌≡◌, option_copied, slice_get};
+ghost use Rattle.std.specs.Prelude.{◌≡◌, option_copied};
 ghost use Rattle.explain_places.specs.Places as model;
 
 use path_geometry::Motion;
 use swept_boxes::Box3;
-use sync_types::{EventId, Item, PlaceName, Run};
+use sync_types::{EventId, PlaceName, Run};
 
 /// A box of a zone, with what is told of its stretch.
 #[derive(Clone, Copy)]
@@ -36,32 +36,12 @@ pub struct Meeting {
     pub right: Place,
 }
 
-/// The item of a place, counted from 0, if there is one.
-fn item_at(items: &[Item], place: usize) -> Option<&Item>
-    ensures { option_copied result ≡ slice_get items.now place }
-{
-    items.get(place)
-}
-
-/// The motion of a place of an entry, counted from 1.
-fn motion_at(run: &Run, entry: u32, place: u32) -> Option<&Motion>
-    ensures { option_copied result ≡ model.motion_at run.now entry place }
-{
-    match item_at(
-        run.items_at(entry as usize),
-        (place as usize).saturating_sub(1),
-    ) {
-        None => None,
-        Some(item) => item.motion(),
-    }
-}
-
 /// The motion of a box; none where it stands.
 pub fn motion_of<'a>(run: &'a Run, place: &Place) -> Option<&'a Motion>
     ensures { option_copied result ≡ model.place_motion run.now place.now }
 {
     match place.motion {
         None => None,
-        Some(motion) => motion_at(run, place.entry, motion),
+        Some(motion) => run.motion_at(place.entry, motion),
     }
 }

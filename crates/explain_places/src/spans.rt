@@ -54,20 +54,13 @@ fn say_other(text: &mut Text, own: Option<ChannelId>, channel: ChannelId)
     }
 }
 
-/// The line of an entry.
-fn line_of(entry: &Entry) -> u32
-    ensures { result ≡ entry.now.step.line }
-{
-    entry.step.line
-}
-
 /// The line of the last entry of a channel among those up to and with a step.
 #[tactic(auto, unfolding(crate::specs::Spans::last_line))]
 fn last_line(entries: &[Entry], channel: ChannelId, step: usize) -> Option<u32>
     ensures { result ≡ model.last_line entries.now channel step }
 {
     match last_own(entries, channel, step) {
-        Some(entry) => Some(line_of(entry)),
+        Some(entry) => Some(entry.step().line),
         None => None,
     }
 }

@@ -20,13 +20,6 @@ use job_types::Job;
 use nc_faults::alarm_text;
 use sync_types::{ChannelEnd, Entry, Item, Run, Step};
 
-/// Whether an entry is a step of a channel.
-fn is_step_of(entry: &Entry, channel: ChannelId) -> bool
-    ensures { result ≡ (entry.now.channel == channel) }
-{
-    entry.channel == channel
-}
-
 /// The place of the last step of a channel.
 #[tactic(auto, unfolding(crate::specs::Channels::last_place))]
 fn last_place(entries: &[Entry], channel: ChannelId) -> Option<usize>
@@ -34,7 +27,7 @@ fn last_place(entries: &[Entry], channel: ChannelId) -> Option<usize>
 {
     let mut last = None;
     for (place, entry) in entries.iter().enumerate() {
-        if is_step_of(entry, channel) {
+        if entry.is_of(channel) {
             last = Some(place);
         }
     }
@@ -142,7 +135,7 @@ fn put_trace<K: Sink>(
     ensures cause { HasCause (K.faults sink.old) (K.faults sink.new) result }
 {
     for (place, entry) in run.entries.iter().enumerate() {
-        if is_step_of(entry, channel) {
+        if entry.is_of(channel) {
             put_entry(page, sink, job, run, silent, place, entry)?;
         }
     }

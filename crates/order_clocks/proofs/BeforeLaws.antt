@@ -7,12 +7,12 @@ use Rattle.order_clocks.specs.Counters.{row}
 use Rattle.order_clocks.specs.Courses.{AreOneIn}
 use Rattle.counter_rows.specs.Rows.{count_of}
 use Rattle.counter_rows.specs.Tables.{TableView}
-use Rattle.order_clocks.specs.Tells.{Tells, row_in, is_same_event, is_before_in}
+use Rattle.order_clocks.specs.Tells.{Tells, row_in, is_before_in}
 use Rattle.order_clocks.proofs.CounterLaws.{before_from, before_to, one_back, one_itself}
 use Rattle.order_clocks.proofs.OrderLaws.{event_in, event_within, one_from, order_in, order_from}
 use Rattle.sync_types.proofs.BoardTests.{no_truth}
 use Rattle.sync_types.specs.Boards.{Board}
-use Rattle.sync_types.specs.Events.{AreOne, IsLowestName}
+use Rattle.sync_types.specs.Events.{AreOne, IsLowestName, is_same_event}
 use Rattle.sync_types.specs.Turns.{Move}
 use Rattle.sync_types.specs.declared.runs.EventId.{EventId}
 

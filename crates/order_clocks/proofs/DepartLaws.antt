@@ -10,7 +10,8 @@ use Rattle.order_clocks.specs.Chains.{IsIn}
 use Rattle.order_clocks.specs.Watching.{wait_in, GoesFrom}
 use Rattle.order_clocks.proofs.MemberLaws.{in_append}
 use Rattle.sync_types.proofs.BoardTests.{no_truth, among_kept, first_passes}
-use Rattle.sync_types.specs.Boards.{Hold, AtAxes, State, IsRunning, IsHolding, Board, among, channel_numbers, is_free, positions_where, grant_with, no_positions}
+use Rattle.sync_types.proofs.TakenAxes.{named_and_not_own}
+use Rattle.sync_types.specs.Boards.{Hold, AtAxes, State, IsRunning, IsHolding, Board, among, channel_numbers, owns, positions_where, grant_with, no_positions}
 use Rattle.sync_types.specs.Events.{channels_in}
 use Rattle.sync_types.specs.GoingOn.{Going, goes_at_once, goers_at_once, lowers, marks_after_goes, state_after_goes, after_goes, waits_for_axes, axes_asked, can_take, next_taker, axes_to_take, free_position, grant_of_taker, state_after_taking, after_taking, going_of_taker, takings, takings_from, all_takings, going_of_start, going_at_once, goings_on, after_goings}
 
@@ -62,7 +63,7 @@ taker_takes b c waits = record {
   waits = waits;
   positions = λ x below. grant_at b c x below;
   past = λ x up. grant_past b c x up;
-  took = λ x on. (and_parts (among (axes_asked (b.state c)) x) (is_free (b.axis x)) (sym (among_kept (λ y. is_free (b.axis y)) (axes_asked (b.state c)) x) ∙ on)).0;
+  took = λ x on. (and_parts (among (axes_asked (b.state c)) x) (not (owns b c x)) (sym (named_and_not_own b c x) ∙ on)).0;
 }
 
 takes_earlier : (b : Board) (c : ℕ) (g : Going) → TakesFrom (after_taking b c) g → TakesFrom b g

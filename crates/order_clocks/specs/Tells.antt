@@ -1,9 +1,10 @@
 -- Steps. Counters in a table that tell the events of a run.
-use Rattle.std.specs.Prelude.{◌≡◌, ℕ, ◌<◌, ◌==◌, ◌&&◌, not, nat_lt, Bool, List, length, if◌then◌else◌}
+use Rattle.std.specs.Prelude.{◌≡◌, ℕ, ◌<◌, ◌&&◌, not, nat_lt, Bool, List, length}
 use Rattle.counter_rows.specs.Rows.{count_of}
 use Rattle.counter_rows.specs.Tables.{TableView, row_at}
 use Rattle.order_clocks.specs.Courses.{Course, IsEventIn}
 use Rattle.order_clocks.specs.Counters.{row}
+use Rattle.sync_types.specs.Events.{is_same_event}
 use Rattle.sync_types.specs.declared.runs.EventId.{EventId}
 
 abbrev pub row_in : TableView → EventId → List ℕ
@@ -12,9 +13,6 @@ row_in table e = row_at table e.step e.channel e.go
 -- the table has the counters of all events of the run
 pub record Tells (run : Course) (table : TableView) : Type 0 where
   pub rows : (e : EventId) → IsEventIn run e → e.step < length table.steps → (c : ℕ) → count_of (row_in table e) c ≡ row run e c
-
-abbrev pub is_same_event : EventId → EventId → Bool
-is_same_event a b = (a.step == b.step) && ((a.channel == b.channel) && (if a.go then b.go else not b.go))
 
 -- another event, which counts the events of the first one's channel up to it
 abbrev pub is_before_in : TableView → EventId → EventId → Bool

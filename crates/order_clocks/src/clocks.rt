@@ -2,7 +2,7 @@
 ghost use Rattle.counter_rows.specs.Rows.{count_of};
 ghost use Rattle.order_clocks.specs.Clocked.{IsOrderOf, moves_in};
 ghost use Rattle.order_clocks.specs.Races.{IsFirst};
-ghost use Rattle.order_clocks.specs.Tells.{is_before_in, is_same_event, row_in};
+ghost use Rattle.order_clocks.specs.Tells.{is_before_in, row_in};
 ghost use Rattle.std.specs.Prelude.{◌≡◌, ℕ, ◌<◌, ◌^◌, length, IfOk};
 ghost use Rattle.sync_types.specs.Boards.{first_board};
 ghost use Rattle.sync_types.specs.Runs.{ComesFrom};
@@ -13,7 +13,7 @@ use counter_rows::RowTable;
 use out_of_memory::NoMemory;
 use std::alloc::Global;
 use std::marker::Model;
-use sync_types::{ChannelEnd, Entry, EventId, Race, Run};
+use sync_types::{EventId, Race, Run};
 
 /// Which event of a run is before which, however fast each channel is, and the first race of the run.
 #[derive(Drop)]
@@ -53,7 +53,7 @@ impl Clocks {
         let c = usize::from(a.channel.number);
         let late = self.count(&b, c);
         let early = self.count(&a, c);
-        !is_same(&a, &b) && !(late < early)
+        !a.is_same(&b) && !(late < early)
     }
 
     /// The first race of the run: the least by its step, then by its letter, then by its four numbers; `None`
@@ -63,27 +63,6 @@ impl Clocks {
     {
         self.race
     }
-}
-
-/// Whether two names are the same.
-fn is_same(a: &EventId, b: &EventId) -> bool
-    ensures { result ≡ is_same_event a.now b.now }
-{
-    a.step == b.step && a.channel.number == b.channel.number && (if a.go { b.go } else { !b.go })
-}
-
-/// The entries of a run.
-fn entries_of(run: &Run) -> &[Entry]
-    ensures { result.now ≡ run.now.entries }
-{
-    run.entries.as_slice()
-}
-
-/// The ends of a run.
-fn ends_of(run: &Run) -> &[ChannelEnd]
-    ensures { result.now ≡ run.now.ends }
-{
-    run.ends.as_slice()
 }
 
 /// The order of the events of a whole run, and its first race. `NoMemory` where it finds too little.
@@ -96,5 +75,5 @@ pub fn clocks_of(alloc: Global, run: &Run) -> Result<Clocks, NoMemory>
         → IfOk result (λ clocks. IsFirst (first_board start) (moves_in run.now.entries)
         (length run.now.entries) clocks.race) }
 {
-    read_run(alloc, entries_of(run), ends_of(run))
+    read_run(alloc, run.entries(), run.ends())
 }

@@ -1,11 +1,11 @@
 //! Reads a run step by step: what happens in each, and the counters of its events.
-ghost use Rattle.axis_sets.specs.declared.limits.TheConstants.{CHANNEL_LIMIT, CHANNEL_PLACES};
+ghost use Rattle.axis_sets.specs.declared.limits.TheConstants.{CHANNEL_PLACES};
 ghost use Rattle.order_clocks.specs.Clocked.{moves_in};
 ghost use Rattle.order_clocks.specs.Happenings.{board_at, happening_of};
 ghost use Rattle.order_clocks.specs.Reading.{IsReadAt, IsReaderAt};
 ghost use Rattle.order_clocks.specs.Stops.{IsWhole};
 ghost use Rattle.order_clocks.specs.Watching.{BeginIsSound, IsLawful, IsRead, Keeps, WatchIsSound};
-ghost use Rattle.std.specs.Prelude.{◌≡◌, ℕ, suc, ◌<◌, ◌≤◌, ◌^◌, false, length, IfOk};
+ghost use Rattle.std.specs.Prelude.{◌≡◌, ℕ, suc, ◌<◌, ◌^◌, false, length, IfOk};
 ghost use Rattle.sync_types.specs.Boards.{Board};
 ghost use Rattle.sync_types.specs.Turns.{after_step};
 ghost use Rattle.step_deeds.specs.Holds.{BeginsAtMark, DepartsFromMark, departure_of, goes_in};
@@ -13,12 +13,11 @@ ghost use Rattle.step_deeds.specs.Holds.{BeginsAtMark, DepartsFromMark, departur
 use crate::Times;
 use crate::stops::{Stops, stops_of};
 use crate::watch::Watch;
-use axis_sets::ChannelId;
 use counter_rows::{Row, StepRows};
 use out_of_memory::NoMemory;
 use std::alloc::Global;
 use step_deeds::Deed;
-use sync_types::{ChannelEnd, Entry, Go, Step};
+use sync_types::{ChannelEnd, Entry};
 
 /// What happens in a step, and the counters of its events.
 #[derive(Clone, Copy)]
@@ -49,28 +48,6 @@ pub(crate) struct Reader {
     pub(crate) times: Times,
 }
 
-/// Who acts in an entry.
-fn channel_of(entry: &Entry) -> ChannelId
-    ensures { result ≡ entry.now.channel }
-{
-    entry.channel
-}
-
-/// What it does.
-fn step_of(entry: &Entry) -> &Step
-    ensures { result.now ≡ entry.now.step }
-{
-    &entry.step
-}
-
-/// Who goes on in it: at most eight.
-pub(crate) fn goes_of(entry: &Entry) -> &[Go]
-    ensures goes { result.now ≡ entry.now.goes }
-    ensures few { length result.now ≤ CHANNEL_LIMIT }
-{
-    entry.goes.as_slice()
-}
-
 /// Reads the next entry, and puts what happens in the place of an earlier one.
 pub(crate) fn tell_entry(watch: &mut Watch, entry: &Entry, alarms: bool, deed: &mut Deed)
     requires sound { WatchIsSound watch.old }
@@ -84,13 +61,7 @@ pub(crate) fn tell_entry(watch: &mut Watch, entry: &Entry, alarms: bool, deed: &
     ensures none { goes_in deed.new 0 ≡ false }
     ensures size { length deed.new.goes ≡ CHANNEL_PLACES }
 {
-    watch.tell(
-        channel_of(entry),
-        step_of(entry),
-        goes_of(entry),
-        alarms,
-        deed,
-    );
+    watch.tell(entry.channel(), entry.step(), entry.goes(), alarms, deed);
 }
 
 impl Reader {

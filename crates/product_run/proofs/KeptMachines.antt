@@ -1,13 +1,14 @@
 -- What each step keeps of a board: axes and zones stay together, and what channels own, ask for, hold and select is of the machine.
-use Rattle.std.proofs.Common.{◌≡◌, ◌∙◌, ℕ, ℤ, ◌<◌, ◌==◌, ◌&&◌, ◌||◌, Bool, true, false, cond, List, [], ◌∷◌, find, Option, Some, None, IfSome, if◌then◌else◌, refl, sym, ap, ap₂, subst}
+use Rattle.std.proofs.Common.{◌≡◌, ◌∙◌, ℕ, ℤ, ◌<◌, ◌==◌, ◌||◌, not, Bool, true, false, cond, List, [], ◌∷◌, find, Option, Some, None, IfSome, if◌then◌else◌, refl, sym, ap, subst}
 use Rattle.std.proofs.lemmas.Bool.{and_parts}
 use Rattle.std.specs.List.{list_any}
 use Rattle.std.specs.Option.{option_map_or}
 use Rattle.axis_sets.specs.Sets.{has, members_of}
 use Rattle.axis_sets.proofs.SetLaws.{list_any-members_of}
 use Rattle.coordination_words.specs.Laws.{selected_program}
-use Rattle.sync_types.proofs.BoardTests.{no_truth, none_pass, passes, among_kept, some_alike, whole_alike, whole_found, not_so, by_test, not_not}
-use Rattle.sync_types.specs.Boards.{State, Ownership, OwnedBy, FreeAt, Board, among, owner_of, is_free, ownership_of, first_board, first_state}
+use Rattle.sync_types.proofs.BoardTests.{no_truth, none_pass, passes, some_alike, whole_alike, whole_found, not_so, by_test, not_not}
+use Rattle.sync_types.proofs.TakenAxes.{named_and_not_own, taken_alike}
+use Rattle.sync_types.specs.Boards.{State, Ownership, OwnedBy, FreeAt, Board, among, owner_of, owns, ownership_of, first_board, first_state}
 use Rattle.sync_types.specs.BoardAlarms.{alarm_of, named_axes, names_no_mark, names_no_channel, names_no_axis, lets_go_of_others, splits_a_zone, finds_own_mark, finds_one_awake, starts_without_program, own_alarm}
 use Rattle.sync_types.specs.BoardActions.{carries, channels_to_start, axes_to_free, ownership_after, holder_after, program_after, state_after_alarm, state_after_action, state_of_actor, after_alarm, after_effects, after_action, after_part}
 use Rattle.sync_types.specs.GoingOn.{axes_asked, goers_at_once, state_after_goes, after_goes, axes_to_take, ownership_after_taking, holder_after_taking, state_after_taking, after_taking}
@@ -163,27 +164,10 @@ kept_goes count b k = record {
   alone = k.alone;
 }
 
-abbrev is_no_one : Option ℕ → Bool
-is_no_one (Some c) = false
-is_no_one None = true
-
-free_of : (a : Ownership) → is_free a ≡ is_no_one (owner_of a)
-free_of (OwnedBy c) = refl
-free_of (FreeAt p) = refl
-
--- of the axes of a zone a taker takes all or none
-taken_alike : (count : ℕ) (b : Board) (c z x y : ℕ) → IsKept count b → has (axes_of_zone b.start z) x ≡ true → has (axes_of_zone b.start z) y ≡ true
-    → among (axes_to_take b c) x ≡ among (axes_to_take b c) y
-taken_alike count b c z x y k on_x on_y =
-    among_kept (λ a. is_free (b.axis a)) (axes_asked (b.state c)) x
-    ∙ ap₂ (λ p q. p && q) (k.alike c z x y on_x on_y)
-    (free_of (b.axis x) ∙ ap is_no_one (k.zones z x on_x ∙ sym (k.zones z y on_y)) ∙ sym (free_of (b.axis y)))
-    ∙ sym (among_kept (λ a. is_free (b.axis a)) (axes_asked (b.state c)) y)
-
 -- what it takes it has asked for
 taken_known : (count : ℕ) (b : Board) (c x : ℕ) → IsKept count b → among (axes_to_take b c) x ≡ true → has_axis b.start x ≡ true
 taken_known count b c x k taken =
-    k.asked c x (and_parts (among (axes_asked (b.state c)) x) (is_free (b.axis x)) (sym (among_kept (λ a. is_free (b.axis a)) (axes_asked (b.state c)) x) ∙ taken)).0
+    k.asked c x (and_parts (among (axes_asked (b.state c)) x) (not (owns b c x)) (sym (named_and_not_own b c x) ∙ taken)).0
 
 -- no axis carries a zone that there is not
 carried_there : (b : Board) (z : ℕ) (axes : List ℕ) → carries b axes z ≡ true → is_zone b.start z ≡ true
@@ -207,7 +191,7 @@ pub kept_taking : (count : ℕ) (b : Board) (c : ℕ) → IsKept count b → IsK
 unfolding ownership_after_taking holder_after_taking state_after_taking
 kept_taking count b c k = record {
   zones = λ z x on_x. goes_to (among (axes_to_take b c) x) (carries b (axes_to_take b c) z) (b.axis x) (b.holder z) c
-      (some_alike (has (axes_of_zone b.start z)) (axes_to_take b c) x on_x (λ y on_y. taken_alike count b c z y x k on_y on_x))
+      (some_alike (has (axes_of_zone b.start z)) (axes_to_take b c) x on_x (λ y on_y. taken_alike b c y x (k.alike c z y x on_y on_x) (k.zones z y on_y ∙ sym (k.zones z x on_x))))
       (k.zones z x on_x);
   alike = λ d z x y on_x on_y. by_test (AsksAlike x y) (d == c) _ _ (λ here. refl) (λ other. k.alike d z x y on_x on_y);
   there = λ x d. by_test (λ a. owner_of a ≡ Some d → has_axis b.start x ≡ true) (among (axes_to_take b c) x) _ _ (λ taken owned. taken_known count b c x k taken) (λ stays. k.there x d);

@@ -11,10 +11,11 @@ use Rattle.channel_machine.proofs.Pasts.{fold-push}
 use Rattle.coordination_words.specs.Laws.{selected_program}
 use Rattle.product_run.proofs.KeptMachines.{IsKept, IsLawful, is_zone, kept_first, kept_goes, kept_part, kept_taking, lawful}
 use Rattle.sync_types.proofs.BoardTests.{among_kept, by_test, first_passes, no_truth, not_not, passes}
+use Rattle.sync_types.proofs.TakenAxes.{free_is_not_own, taken_is_free}
 use Rattle.sync_types.specs.BoardActions.{after_action, after_effects, after_own_part, after_part, axes_to_free, channels_to_start, ownership_after, program_after, state_after_action, state_after_alarm, state_of_actor}
 use Rattle.sync_types.specs.BoardAlarms.{alarm_of, lets_go_of_others, starts_without_program}
-use Rattle.sync_types.specs.Boards.{State, IsIdle, IsRunning, IsHolding, HasEnded, HasAlarmed, Ownership, OwnedBy, FreeAt, Board, among, channel_numbers, first_board, first_state, grant_in, grant_with, is_free, is_running, is_this, no_positions, owner_of, owns, positions_where, start_grant, zone_numbers}
-use Rattle.sync_types.specs.GoingOn.{after_goes, after_taking, axes_asked, axes_to_take, can_take, free_position, goers_at_once, goes_at_once, grant_of_taker, next_taker, ownership_after_taking, state_after_goes, state_after_taking, takings, takings_from, waits_for_axes}
+use Rattle.sync_types.specs.Boards.{State, IsIdle, IsRunning, IsHolding, HasEnded, HasAlarmed, OwnedBy, Board, among, channel_numbers, first_board, first_state, grant_in, grant_with, is_running, is_this, no_positions, owner_of, owns, positions_where, start_grant, zone_numbers}
+use Rattle.sync_types.specs.GoingOn.{after_goes, after_taking, axes_to_take, can_take, free_position, goers_at_once, goes_at_once, grant_of_taker, next_taker, ownership_after_taking, state_after_goes, state_after_taking, takings, takings_from, waits_for_axes}
 use Rattle.sync_types.specs.Runs.{as_list}
 use Rattle.sync_types.specs.Starts.{axes_of_zone, first_position, first_program, runs_at_first, IsSound}
 use Rattle.sync_types.specs.Turns.{after_step}
@@ -71,10 +72,6 @@ other_number d c other = ne_eqb c d (λ same. no_truth (d == c) (eq-eqb d c (sym
 -- one owner
 not_two : (o : Option ℕ) (c d : ℕ) → is_this o c ≡ true → (d == c) ≡ false → is_this o d ≡ false
 not_two o c d is other = ap (λ (p : Option ℕ). is_this p d) (this_one o c is) ∙ other_number d c other
-
-free_unowned : (a : Ownership) (d : ℕ) → is_free a ≡ true → is_this (owner_of a) d ≡ false
-free_unowned (OwnedBy c) d free = no_truth false free refl
-free_unowned (FreeAt position) d free = refl
 
 -- ---- grants
 
@@ -227,12 +224,10 @@ waits : (count : ℕ) (had : List Grant) (start : StartView) (owned : ℕ → Bo
 waits count had start owned (IsHolding hold line) is wait = wait
 waits count had start owned other is own = no_truth false is refl
 
-others_taken : (b : Board) (c d : ℕ) → (d == c) ≡ false → (x : ℕ) → owns (after_taking b c) d x ≡ owns b d x
+others_taken : (b : Board) (c d : ℕ) → can_take b c ≡ true → (d == c) ≡ false → (x : ℕ) → owns (after_taking b c) d x ≡ owns b d x
 unfolding ownership_after_taking
-others_taken b c d other x = by_test (λ a. is_this (owner_of a) d ≡ owns b d x) (among (axes_to_take b c) x) _ _
-    (λ taken.
-    other_number d c other
-    ∙ sym (free_unowned (b.axis x) d (and_parts (among (axes_asked (b.state c)) x) (is_free (b.axis x)) (sym (among_kept (λ a. is_free (b.axis a)) (axes_asked (b.state c)) x) ∙ taken)).1))
+others_taken b c d takes other x = by_test (λ a. is_this (owner_of a) d ≡ owns b d x) (among (axes_to_take b c) x) _ _
+    (λ taken. other_number d c other ∙ sym (free_is_not_own (b.axis x) d (taken_is_free b c x takes taken)))
     (λ stays. refl)
 
 taker : (count : ℕ) (b : Board) (c : ℕ) (had : List Grant) → IsKept count (after_taking b c) → IsOwnWait had (owns b c)
@@ -263,7 +258,7 @@ own_taking count had b c takes k own = record {
       (λ here.
       let P : ℕ → Type 0 = λ e. IsOwnGrant count (had e) b.start (owns (after_taking b c) e) (grant_of_taker b c) in
       subst P (sym (eqb-true d c here)) (taker count b c (had c) k (waits count (had c) b.start (owns b c) (b.state c) (and_parts _ _ takes).0 (own.states c))))
-      (λ other. same_state count (had d) b.start (owns b d) (owns (after_taking b c) d) (b.state d) (others_taken b c d other) (own.states d));
+      (λ other. same_state count (had d) b.start (owns b d) (owns (after_taking b c) d) (b.state d) (others_taken b c d takes other) (own.states d));
 }
 
 -- ---- a whole step

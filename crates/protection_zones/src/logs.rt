@@ -18,7 +18,7 @@ use job_types::Job;
 use order_clocks::{ReadStep, StepReader};
 use std::alloc::{AllocError, Global};
 use step_deeds::Deed;
-use sync_types::{ChannelEnd, Entry, Go, Step};
+use sync_types::{ChannelEnd, Entry, Go};
 
 /// What is kept of the events of a run.
 #[derive(Drop)]
@@ -75,29 +75,15 @@ fn add_goings(log: &mut Log, place: u32, deed: &Deed, goes: &[Go]) -> Result<(),
     Ok(())
 }
 
-/// Who goes on in an entry.
-fn goes_in(entry: &Entry) -> &[Go]
-    ensures { result.now ≡ entry.now.goes }
-{
-    entry.goes.as_slice()
-}
-
-/// What a channel did in an entry.
-fn step_in(entry: &Entry) -> &Step
-    ensures { result.now ≡ entry.now.step }
-{
-    &entry.step
-}
-
 /// Adds the events of the step of this place.
 fn add_step(log: &mut Log, place: u32, read: &ReadStep, entry: &Entry) -> Result<(), AllocError>
     requires { (job : JobView) × (os : List Occurrence) × IsLog job os log.old }
     ensures { (job : JobView) (os : List Occurrence) → IsLog job os log.old
         → OnOk result (IsLog job (os ++ read_step place read.now entry.now) log.new) }
 {
-    let step = step_in(entry);
+    let step = entry.step();
     add_event(log, &act_note(place, read, step), &step.at)?;
-    add_goings(log, place, &read.deed, goes_in(entry))
+    add_goings(log, place, &read.deed, entry.goes())
 }
 
 /// What is kept of the events of a whole run. Each entry is read once.

@@ -2,8 +2,7 @@
 use Rattle.std.proofs.Common.{◌≡◌, ℕ, suc, ◌≤◌, ◌<◌, ◌==◌, ◌&&◌, ◌||◌, not, Bool, true, false, List, length, inl, inr, refl, sym, ap, ap₂, subst, ◌∙◌, arith}
 use Rattle.std.proofs.lemmas.Bool.{cases_Bool, eqb-true, eq-eqb, and_from, true≢false}
 use Rattle.sync_types.specs.BoardActions.{after_own_part}
-use Rattle.sync_types.specs.Boards.{State as Doing, IsIdle, IsRunning, IsHolding, HasEnded, HasAlarmed, OwnedBy, AtMarks, AtEnds, AtAxes, Ownership, Board, among}
-use Rattle.sync_types.specs.Boards as boards
+use Rattle.sync_types.specs.Boards.{State as Doing, IsIdle, IsRunning, IsHolding, HasEnded, HasAlarmed, OwnedBy, AtMarks, AtEnds, AtAxes, Ownership, Board, among, owns}
 use Rattle.sync_types.specs.GoingOn.{Going}
 use Rattle.sync_types.specs.Turns.{Move}
 use Rattle.sync_types.specs.declared.Step.{Step}
@@ -16,11 +15,11 @@ use Rattle.board_laws.specs.Machine.{Mark, Axis, Seat, In, Own, State, Effect, a
 use Rattle.board_laws.specs.Clean.{SameSet, ActClean, IsClean, Inv}
 use Rattle.board_laws.proofs.Basics.{no, ready_met, mark_at}
 use Rattle.board_laws.proofs.Parts.{put_same, put_other, touched_kept}
-use Rattle.board_laws.proofs.Actions.{act_is}
-use Rattle.board_laws.proofs.Absorb.{took_free, stood}
+use Rattle.board_laws.proofs.Actions.{act_is, owns_mine}
+use Rattle.board_laws.proofs.Absorb.{stood}
 use Rattle.board_laws.proofs.Shown.{eqb_turned, axis_getting}
 use Rattle.board_laws.proofs.Takings.{IsOf, in_channels, asked}
-use Rattle.board_laws.proofs.AtOnce.{taken_in, before_takings, went, takings_of, getting_stays, asked_gets, free_shown, left_out}
+use Rattle.board_laws.proofs.AtOnce.{taken_in, before_takings, went, takings_of, getting_stays, asked_gets, left_out}
 use Rattle.board_laws.proofs.Goings.{taken_in_goings, from_of}
 use Rattle.schedule_laws.specs.Tracked.{goes_in, last_place, own_at, tracked}
 use Rattle.schedule_laws.proofs.Steps.{Here, mid, starts, found_in, seat_at, goings_told, after_told}
@@ -249,8 +248,8 @@ axes_quiet b moves i q c d x r y off n = elim (cases_Bool (asks ((mid q.here).ow
         | inl gone ↦
             let g = in_channels (taken_in t).goings c gone in
             let g_asks : asked (before_takings t) g.0.channel x ≡ true = ap (λ (z : ℕ). asked (before_takings t) z x) g.1.1 ∙ asked_gets t c x get_c ∙ y in
-            let free : boards.is_free ((before_takings t).axis x) ≡ true = free_shown (t.axis x).owner (t.axis x).position ∙ took_free t c x r y off in
-            let took : among g.0.took x ≡ true = (all.each g.0 g.1.0).took x ∙ and_from (asked (before_takings t) g.0.channel x) (boards.is_free ((before_takings t).axis x)) g_asks free in
+            let not_own : not (owns (before_takings t) g.0.channel x) ≡ true = ap not (owns_mine t g.0.channel x ∙ ap (λ (z : ℕ). mine t z x) g.1.1 ∙ off) in
+            let took : among g.0.took x ≡ true = (all.each g.0 g.1.0).took x ∙ and_from (asked (before_takings t) g.0.channel x) (not (owns (before_takings t) g.0.channel x)) g_asks not_own in
             let owned : (taken_in t).board.axis x ≡ OwnedBy g.0.channel = (all.each g.0 g.1.0).has x g_asks in
             let other : (d == g.0.channel) ≡ false = ap (λ (z : ℕ). d == z) g.1.1 ∙ n in
             let out : went t d ≡ false = elim (cases_Bool (went t d)) [

@@ -7,11 +7,10 @@ use Rattle.order_clocks.specs.Clocked.{IsOrderOf}
 use Rattle.order_clocks.specs.Counters.{row}
 use Rattle.order_clocks.specs.CourseOf.{course_of}
 use Rattle.order_clocks.specs.Courses.{AreOneIn}
-use Rattle.order_clocks.specs.Tells.{is_same_event}
 use Rattle.sync_types.proofs.BoardTests.{no_truth}
 use Rattle.sync_types.proofs.Links.{are_one_alike, has_one_lowest_name}
 use Rattle.sync_types.specs.Boards.{Board}
-use Rattle.sync_types.specs.Events.{AreOne, IsLowestName}
+use Rattle.sync_types.specs.Events.{AreOne, IsLowestName, is_same_event}
 use Rattle.sync_types.specs.Turns.{Move}
 use Rattle.sync_types.specs.declared.runs.EventId.{EventId}
 use Rattle.zone_stretches.specs.Overlaps.{Order, is_open_at, may_overlap}

@@ -7,9 +7,9 @@ use Rattle.job_types.specs.Job.{JobView}
 use Rattle.job_types.specs.Zones.{zones_in_order}
 use Rattle.job_types.specs.declared.job.ZoneLine.{ZoneLine}
 use Rattle.number_laws.proofs.Lists.{SomeOf, SomeOf-weaker, SomeOf-append_left, SomeOf-append_right, SomeOf-map, SomeOf-flat_map, SomeOf-filter, list_any-some}
-use Rattle.order_clocks.specs.Tells.{is_same_event}
 use Rattle.swept_boxes.proofs.MeetTests.{meet_passes}
 use Rattle.swept_boxes.specs.Boxes.{SpacePoint, IsInBox, boxes_meet}
+use Rattle.sync_types.specs.Events.{is_same_event}
 use Rattle.sync_types.specs.Views.{RunView}
 use Rattle.sync_types.specs.declared.runs.EventId.{EventId}
 use Rattle.zone_stretches.specs.Overlaps.{Order, is_open_at, may_overlap, share_channel, share_place, are_compared, ZoneTime, Pair, box_pairs, stretch_pairs, pairs_of_zones, pairs_by_group, zone_times, compared_pairs}

@@ -10,7 +10,7 @@ use Rattle.axis_sets.specs.Positions.{position_of}
 use Rattle.axis_sets.specs.Sets.{members_of}
 use Rattle.axis_sets.specs.declared.limits.TheConstants.{AXIS_LIMIT}
 use Rattle.board_laws.proofs.Footprint.{no_alarm}
-use Rattle.board_laws.proofs.Takings.{IsOf, taker_grant}
+use Rattle.board_laws.proofs.Takings.{IsOf, taker_grant, taken_was_free}
 use Rattle.board_laws.proofs.Zones.{zones_step}
 use Rattle.board_laws.specs.Machine.{grant_by}
 use Rattle.board_laws.specs.Zones.{Zones}
@@ -177,7 +177,7 @@ module _ (b : Board) (p : ℕ) (step : Step) where
                 (inr ((in_append some.0 (map (going_at_once part) (goers_at_once part)) (all_takings (after_goes part)).goings).1 (inr (to_in some.0 (all_takings (after_goes part)).goings some.1.0))));
             took = some.1.1;
             owned = t.has x both.0;
-            was_free = both.1;
+            was_free = taken_was_free (after_goes part) (all_takings (after_goes part)).board some.0 x t some.1.1;
             asked = asks_part some.0.channel x both.0;
           })
     ]
@@ -207,12 +207,12 @@ module _ (b : Board) (p : ℕ) (step : Step) where
     unfolding grant_by
     taker_told x g within =
         let t = (taken b p step zs running).each g (of_in g (all_takings (after_goes part)).goings within) in
-        let test : ℕ → Bool = λ y. among (axes_asked ((after_goes part).state g.channel)) y && is_free (part.axis y) in
+        let test : ℕ → Bool = λ y. among (axes_asked ((after_goes part).state g.channel)) y && not (owns part g.channel y) in
         let there : position_of g.grant.at x ≡ position_of (taker_grant (after_goes part) g.channel).at x = ap (λ (grant : Grant). position_of grant.at x) t.grant in
         inr (
           (λ off. there ∙ not_placed test (λ y. free_position (part.axis y)) x (sym (t.took x) ∙ off)),
           (λ on. (
-            (and_parts _ _ (sym (t.took x) ∙ on)).1,
+            taken_was_free (after_goes part) (all_takings (after_goes part)).board g x t on,
             (λ below. there ∙ placed test (λ y. free_position (part.axis y)) x below ∙ ap (λ (t : Bool). cond t (Some (free_position (part.axis x))) None) (sym (t.took x) ∙ on)),
           )),
         )

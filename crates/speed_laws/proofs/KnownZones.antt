@@ -2,17 +2,18 @@
 use Rattle.axis_sets.specs.declared.limits.TheConstants.{CHANNEL_LIMIT, ZONE_LIMIT, ZONE_PLACES}
 use Rattle.std.proofs.Common.{◌≡◌, ◌∙◌, ℕ, ℤ, zero, suc, ◌+◌, ◌≤◌, ◌==◌, ◌&&◌, ◌||◌, Bool, true, false, cond, List, [], ◌∷◌, map, length, Option, None, Some, refl, sym, ap, subst, arith, eqb-true, eq-eqb}
 use Rattle.std.specs.List.{list_any}
-use Rattle.std.proofs.lemmas.Bool.{and_parts, ne_eqb}
+use Rattle.std.proofs.lemmas.Bool.{ne_eqb}
 use Rattle.std.proofs.lemmas.List.FromFn.{get_or-map-range_with_len}
 use Rattle.axis_sets.specs.Sets.{has, members_of}
 use Rattle.board_laws.proofs.Footprint.{no_alarm}
 use Rattle.board_laws.proofs.Zones.{zones_first, zones_goes, zones_part, zones_step, zones_taking}
 use Rattle.board_laws.specs.Zones.{Zones}
-use Rattle.sync_types.proofs.BoardTests.{among_kept, by_test, no_truth, not_not, passes}
+use Rattle.sync_types.proofs.BoardTests.{by_test, first_passes, no_truth, not_not, passes}
+use Rattle.sync_types.proofs.TakenAxes.{taken_is_free}
 use Rattle.sync_types.specs.BoardActions.{after_action, after_alarm, after_effects, after_own_part, after_part, axes_to_free, carries, channels_to_start, holder_after, is_on_after, state_after_action, state_after_alarm, state_of_actor}
 use Rattle.sync_types.specs.BoardAlarms.{alarm_of, lets_go_of_others}
-use Rattle.sync_types.specs.Boards.{State, IsRunning, HasAlarmed, Ownership, OwnedBy, FreeAt, Board, among, board_at_rest, first_board, first_state, grant_with, is_free, is_this, no_positions, owner_of, owns, positions_where, start_grant, zone_numbers}
-use Rattle.sync_types.specs.GoingOn.{after_goes, after_taking, axes_asked, axes_to_take, free_position, goers_at_once, grant_of_taker, holder_after_taking, next_taker, state_after_goes, state_after_taking, takings, takings_from, with_its_axes}
+use Rattle.sync_types.specs.Boards.{State, IsRunning, HasAlarmed, Ownership, OwnedBy, FreeAt, Board, among, board_at_rest, channel_numbers, first_board, first_state, grant_with, is_free, is_this, no_positions, owner_of, owns, positions_where, start_grant, zone_numbers}
+use Rattle.sync_types.specs.GoingOn.{after_goes, after_taking, axes_to_take, can_take, free_position, goers_at_once, grant_of_taker, holder_after_taking, next_taker, state_after_goes, state_after_taking, takings, takings_from, with_its_axes}
 use Rattle.sync_types.specs.Runs.{Script, Stage, after_turn, first_stage, stage_after}
 use Rattle.sync_types.specs.Starts.{IsSound, axes_of_zone, first_position, runs_at_first}
 use Rattle.sync_types.specs.Turns.{after_step}
@@ -166,37 +167,36 @@ module _ (z : ℕ) (low : 1 ≤ z) (high : z ≤ ZONE_LIMIT) where
   taker_told b c = granted (with_its_axes b c) c (positions_where (among (axes_to_take b c)) (λ x. free_position (b.axis x)))
 
   -- a zone that is taken was nobody's
-  was_free : (b : Board) (c : ℕ) → Zones b → carries b (axes_to_take b c) z ≡ true → b.holder z ≡ None
-  was_free b c zs carried =
+  was_free : (b : Board) (c : ℕ) → can_take b c ≡ true → Zones b → carries b (axes_to_take b c) z ≡ true → b.holder z ≡ None
+  was_free b c takes zs carried =
       let some = carrying (axes_of_zone b.start z) (axes_to_take b c) carried in
-      let free : is_free (b.axis some.0) ≡ true = (and_parts (among (axes_asked (b.state c)) some.0) (is_free (b.axis some.0)) (sym (among_kept (λ x. is_free (b.axis x)) (axes_asked (b.state c)) some.0) ∙ some.1)).1 in
-      sym (zs.owner z some.0 some.2) ∙ no_owner (b.axis some.0) free
+      sym (zs.owner z some.0 some.2) ∙ no_owner (b.axis some.0) (taken_is_free b c some.0 takes some.1)
 
-  others_taking : (b : Board) (c d : ℕ) → Zones b → (d == c) ≡ false → holds_on (with_its_axes b c) d ≡ holds_on b d
+  others_taking : (b : Board) (c d : ℕ) → can_take b c ≡ true → Zones b → (d == c) ≡ false → holds_on (with_its_axes b c) d ≡ holds_on b d
   unfolding holder_after_taking
-  others_taking b c d zs other = by_carried (carries b (axes_to_take b c) z) refl
+  others_taking b c d takes zs other = by_carried (carries b (axes_to_take b c) z) refl
     where
       by_carried : (carried : Bool) → carries b (axes_to_take b c) z ≡ carried → (is_this (cond carried (Some c) (b.holder z)) d && b.is_on z) ≡ (is_this (b.holder z) d && b.is_on z)
       by_carried true is =
           and_never (c == d) (b.is_on z) (other_number d c other)
-          ∙ sym (and_never (is_this (b.holder z) d) (b.is_on z) (ap (λ (o : Option ℕ). is_this o d) (was_free b c zs is)))
+          ∙ sym (and_never (is_this (b.holder z) d) (b.is_on z) (ap (λ (o : Option ℕ). is_this o d) (was_free b c takes zs is)))
       by_carried false is = refl
 
-  told_taking : (b : Board) (c : ℕ) → Zones b → AreTold b → AreTold (after_taking b c)
+  told_taking : (b : Board) (c : ℕ) → can_take b c ≡ true → Zones b → AreTold b → AreTold (after_taking b c)
   unfolding state_after_taking
-  told_taking b c zs t = record {
+  told_taking b c takes zs t = record {
     states = λ d. by_test (IsToldIn (holds_on (with_its_axes b c) d)) (d == c) (IsRunning (grant_of_taker b c)) (b.state d)
         (λ here. subst (λ (e : ℕ). IsTold (holds_on (with_its_axes b c) e) (grant_of_taker b c)) (sym (eqb-true d c here)) (taker_told b c))
-        (λ other. still (holds_on b d) (holds_on (with_its_axes b c) d) (b.state d) (others_taking b c d zs other) (t.states d));
+        (λ other. still (holds_on b d) (holds_on (with_its_axes b c) d) (b.state d) (others_taking b c d takes zs other) (t.states d));
   }
 
   told_takings : (n : ℕ) (b : Board) → Zones b → AreTold b → AreTold (takings n b).board
   told_takings zero b zs t = t
-  told_takings (suc n) b zs t = next (told_takings n) (next_taker b)
+  told_takings (suc n) b zs t = next (told_takings n) (next_taker b) refl
     where
-      next : ((a : Board) → Zones a → AreTold a → AreTold (takings n a).board) → (taker : Option ℕ) → AreTold (takings_from (takings n) b taker).board
-      next rest None = t
-      next rest (Some c) = rest (after_taking b c) (zones_taking b c zs) (told_taking b c zs t)
+      next : ((a : Board) → Zones a → AreTold a → AreTold (takings n a).board) → (taker : Option ℕ) → next_taker b ≡ taker → AreTold (takings_from (takings n) b taker).board
+      next rest None is = t
+      next rest (Some c) is = rest (after_taking b c) (zones_taking b c zs) (told_taking b c (first_passes (can_take b) channel_numbers c is) zs t)
 
   -- ---- runs
 

@@ -1,6 +1,6 @@
 -- The present tenure of a zone in the run that speaks for all: its owner holds the zone, and its present span is one of the tenure.
-use Rattle.std.proofs.Common.{◌≡◌, ◌⊎◌, ◌∙◌, ℕ, suc, ◌+◌, ◌<◌, ◌≤◌, Bool, true, false, cond, ◌==◌, List, [], ◌∷◌, ◌++◌, append_assoc, length, map, filter, slice_get, Option, None, Some, IfSome, All, inl, inr, refl, sym, ap, subst, arith}
-use Rattle.std.proofs.lemmas.Bool.{and_parts, cases_Bool}
+use Rattle.std.proofs.Common.{◌≡◌, ◌⊎◌, ◌∙◌, ℕ, suc, ◌+◌, ◌<◌, ◌≤◌, Bool, true, false, not, cond, ◌==◌, List, [], ◌∷◌, ◌++◌, append_assoc, length, map, filter, slice_get, Option, None, Some, IfSome, All, inl, inr, refl, sym, ap, subst, arith}
+use Rattle.std.proofs.lemmas.Bool.{and_from, and_parts, cases_Bool}
 use Rattle.std.proofs.lemmas.List.Elements.{All-nil, All-cons, All-append, All-head, All-map, All-tail}
 use Rattle.axis_sets.specs.Positions.{stands}
 use Rattle.axis_sets.specs.Sets.{has}
@@ -33,7 +33,7 @@ use Rattle.sync_types.proofs.BoardTests.{no_truth}
 use Rattle.sync_types.proofs.Replays.{run_is_replay}
 use Rattle.sync_types.specs.BoardActions.{after_own_part, after_part}
 use Rattle.sync_types.specs.BoardAlarms.{alarm_of}
-use Rattle.sync_types.specs.Boards.{Board, Ownership, OwnedBy, FreeAt, among, channel_numbers, first_board, is_free, is_running, owner_of}
+use Rattle.sync_types.specs.Boards.{Board, among, channel_numbers, first_board, is_running, is_this, owner_of, owns}
 use Rattle.sync_types.specs.GoingOn.{Going, after_goes, axes_asked}
 use Rattle.sync_types.specs.Runs.{Script, first_stage, moves_of, stage_after}
 use Rattle.sync_types.specs.Starts.{IsSound, axes_of_zone, first_holder}
@@ -42,11 +42,6 @@ use Rattle.sync_types.specs.Views.{StartView}
 use Rattle.sync_types.specs.declared.Step.{Step}
 
 -- ---- who takes axes of a zone takes all of them
-
-free_alike : (a b : Ownership) → owner_of a ≡ owner_of b → is_free a ≡ true → is_free b ≡ true
-free_alike (FreeAt p) (FreeAt q) same free = refl
-free_alike (FreeAt p) (OwnedBy c) same free = absurd cc
-free_alike (OwnedBy c) b same free = absurd cc
 
 pub part_start : (b : Board) (p : ℕ) (step : Step) → (after_own_part b p step).start ≡ b.start
 part_start b p step = by_alarm (alarm_of b p step.action)
@@ -67,8 +62,9 @@ going_takes b p step zone x zs running for carries g within on =
     let has_x : has (axes_of_zone before.start zone.zone) x ≡ true = ap (λ (s : StartView). has (axes_of_zone s zone.zone) x) start ∙ for x ∙ carries in
     let both = and_parts _ _ (sym (t.took w.0) ∙ w.2) in
     let asked : among (axes_asked (before.state g.channel)) x ≡ true = sym (whole.asks g.channel zone.zone w.0 x has_w has_x) ∙ both.0 in
-    let free : is_free (before.axis x) ≡ true = free_alike (before.axis w.0) (before.axis x) (whole.owner zone.zone w.0 has_w ∙ sym (whole.owner zone.zone x has_x)) both.1 in
-    (t.took x ∙ rw (asked, free) refl, t.listed)
+    let other : not (owns before g.channel x) ≡ true =
+    ap (λ (o : Option ℕ). not (is_this o g.channel)) (whole.owner zone.zone x has_x ∙ sym (whole.owner zone.zone w.0 has_w)) ∙ both.1 in
+    (t.took x ∙ and_from (among (axes_asked (before.state g.channel)) x) (not (owns before g.channel x)) asked other, t.listed)
 
 -- along a run
 pub run_takes : (ms : List Move) (b : Board) (zone : ZoneLine) (i x : ℕ) (carries : has_axis zone x ≡ true) → Zones b → IsFor zone b → AreOfRunning b ms → All (TakesAll zone x carries) (occurrences_from b i ms)

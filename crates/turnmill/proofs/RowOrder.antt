@@ -8,10 +8,9 @@ use Rattle.order_clocks.specs.Clocked.{IsOrderOf}
 use Rattle.order_clocks.specs.Counters.{row}
 use Rattle.order_clocks.specs.CourseOf.{course_of}
 use Rattle.order_clocks.specs.Courses.{AreOneIn}
-use Rattle.order_clocks.specs.Tells.{is_same_event}
 use Rattle.sync_types.proofs.BoardTests.{no_truth}
 use Rattle.sync_types.specs.Boards.{Board}
-use Rattle.sync_types.specs.Events.{AreOne, IsLowestName}
+use Rattle.sync_types.specs.Events.{AreOne, IsLowestName, is_same_event}
 use Rattle.sync_types.specs.Turns.{Move}
 use Rattle.sync_types.specs.declared.runs.EventId.{EventId}
 

@@ -1,5 +1,5 @@
 -- Meaning. What the words and their input call for: the two lines of a sample, and the output of an input that is checked.
-use Rattle.std.specs.Prelude.{◌≡◌, ℕ, Bool, true, false, List, [], length, Option, None, Some, Result, IsOkAnd}
+use Rattle.std.specs.Prelude.{◌≡◌, ℕ, List, [], length, Option, None, Some, Result, IsOkAnd}
 use Rattle.std.specs.List.{count_by, sum_by}
 use Rattle.clash_check.specs.Counts.{count_of}
 use Rattle.exit_statuses.specs.Statuses.{status_of}
@@ -11,10 +11,9 @@ use Rattle.job_report.specs.declared.summaries.Figures.{Figures}
 use Rattle.job_types.specs.Job.{JobView}
 use Rattle.fault_codes.specs.declared.Refusal.{Refusal}
 use Rattle.zone_stretches.specs.Overlaps.{Order}
+use Rattle.sync_types.specs.Items.{is_motion}
 use Rattle.sync_types.specs.Views.{RunView}
 use Rattle.sync_types.specs.declared.Item.{Item}
-use Rattle.sync_types.specs.declared.Part.{Part}
-use Rattle.sync_types.specs.declared.Part.TheVariants.{Move, Switch}
 use Rattle.sync_types.specs.declared.verdicts.Verdict.{Verdict}
 use Rattle.tape_job.specs.Read.{read_of}
 use Rattle.turnmill.specs.Judged.{IsJudgedInOrder, zone_time_in}
@@ -22,14 +21,9 @@ use Rattle.turnmill.specs.Output.{InputCallsFor}
 use Rattle.turnmill.specs.declared.words.Request.{Request}
 use Rattle.turnmill.specs.declared.words.Request.TheVariants.{Check, Sample}
 
--- the block moves axes
-abbrev pub is_motion : Part → Bool
-is_motion (Move motion) = true
-is_motion (Switch zone on) = false
-
 -- how many motions the channels make
 abbrev pub moves_of : List Item → ℕ
-moves_of items = count_by (λ item. is_motion item.part) items
+moves_of items = count_by is_motion items
 
 abbrev pub move_count : RunView → ℕ
 move_count run = sum_by moves_of run.items

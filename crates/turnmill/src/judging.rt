@@ -1,6 +1,5 @@
 //! A run of a job is judged.
 ghost use Rattle.std.specs.Prelude.{◌≡◌, ◌≤◌, All, IfOk, length};
-ghost use Rattle.axis_sets.specs.declared.limits.TheConstants.{CHANNEL_LIMIT};
 ghost use Rattle.channel_machine.specs.StartStates.{start_of};
 ghost use Rattle.clash_check.specs.Counts.{count_of};
 ghost use Rattle.job_report.specs.Channels.{IsListedEnd};
@@ -18,7 +17,7 @@ use product_run::run_in_order;
 use protection_zones::{Stretches, stretches_of};
 use std::alloc::Global;
 use std::thread::Threads;
-use sync_types::{Entry, Run, Verdict};
+use sync_types::{Run, Verdict};
 use tape_job::Job;
 
 /// A run of a job and the verdict on it, with the clocks and the stretches of zones that the verdict rests on.
@@ -93,23 +92,6 @@ pub(crate) fn judge_in_order(alloc: Global, job: &Job) -> Result<Judgement, NoMe
     judge_job(alloc, job)
 }
 
-/// How many channels go on in a step: at most as many as there may be.
-fn goes_in(entry: &Entry) -> usize
-    ensures value { result ≡ length entry.now.goes }
-    ensures few { result ≤ CHANNEL_LIMIT }
-{
-    entry.goes.len()
-}
-
-/// Sees that in each step at most as many channels go on as there may be.
-fn see_goes(run: &Run)
-    ensures { All (λ e. length e.goes ≤ CHANNEL_LIMIT) run.now.entries }
-{
-    for entry in run.entries() {
-        let _count = goes_in(entry);
-    }
-}
-
 /// How many pairs of boxes are compared.
 pub(crate) fn pair_count(job: &Job, judgement: &Judgement) -> u64
     requires accepted { IsSoundJob job.now }
@@ -117,6 +99,6 @@ pub(crate) fn pair_count(job: &Job, judgement: &Judgement) -> u64
         judgement.now.stretches judgement.now.verdict }
     ensures { result ≡ count_of (is_before_in judgement.now.clocks.rows) job.now judgement.now.stretches }
 {
-    see_goes(&judgement.run);
+    judgement.run.see_goes();
     count(job, &judgement.stretches, &judgement.clocks)
 }

@@ -10,7 +10,7 @@ ghost use Rattle.sample_jobs.specs.declared.TheConstants.{GREATEST_NUMBER};
 ghost use Rattle.tape_job.specs.Read.{read_of};
 ghost use Rattle.turnmill.specs.Judgements.{IsJudgedByClocks};
 ghost use Rattle.turnmill.specs.Output.{IsAnswer, IsReadWhole, Writes, WritesFront};
-ghost use Rattle.turnmill.specs.Summary.{IsSummaryBy, figures_of, is_motion, move_count, moves_of};
+ghost use Rattle.turnmill.specs.Summary.{IsSummaryBy, figures_of, move_count, moves_of};
 
 use crate::judging::{Judgement, judge_job, pair_count};
 use edge_io::{CountSink, Sink};
@@ -19,18 +19,8 @@ use job_report::{Figures, report, summary};
 use sample_jobs::sample;
 use std::alloc::Global;
 use std::mem::forget;
-use sync_types::{Item, Part, Run, Verdict};
+use sync_types::{Item, Run, Verdict};
 use tape_job::{Job, JobFault, read_job};
-
-/// Whether a block moves axes.
-fn is_motion(part: &Part) -> bool
-    ensures { result ≡ is_motion part.now }
-{
-    match part {
-        Part::Move(_) => true,
-        Part::Switch(_, _) => false,
-    }
-}
 
 /// How many of these are motions.
 fn moves_of(items: &[Item]) -> usize
@@ -39,7 +29,7 @@ fn moves_of(items: &[Item]) -> usize
 {
     let mut count = 0;
     for item in items {
-        if is_motion(&item.part) {
+        if item.is_motion() {
             count += 1;
         }
     }

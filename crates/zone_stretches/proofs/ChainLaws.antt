@@ -6,9 +6,8 @@ use Rattle.std.proofs.lemmas.List.Elements.{All-nil, All-cons, All-head, All-tai
 use Rattle.order_clocks.specs.Before.{Follows}
 use Rattle.order_clocks.specs.Chains.{IsPath, Leads}
 use Rattle.order_clocks.specs.Clocked.{IsOrderOf}
-use Rattle.order_clocks.specs.Tells.{is_same_event}
 use Rattle.sync_types.specs.Boards.{Board}
-use Rattle.sync_types.specs.Events.{IsLowestName}
+use Rattle.sync_types.specs.Events.{IsLowestName, is_same_event}
 use Rattle.sync_types.specs.Turns.{Move}
 use Rattle.sync_types.specs.declared.runs.EventId.{EventId}
 use Rattle.zone_stretches.specs.Ascents.{leading, PassFirst, is_over, is_in_order, is_forward, is_over_at_first, do_ascend, passes, IsTimed}

@@ -3,7 +3,7 @@ use Rattle.axis_sets.specs.declared.limits.TheConstants.{CHANNEL_LIMIT}
 use Rattle.std.proofs.Common.{◌≡◌, ◌∙◌, inl, inr, ℕ, zero, suc, ◌==◌, ◌||◌, Bool, true, false, cond, List, [], ◌∷◌, ◌++◌, map, Option, None, Some, refl, sym, ap, subst}
 use Rattle.std.specs.Prelude.{⊤}
 use Rattle.std.specs.List.{list_any}
-use Rattle.std.proofs.lemmas.Bool.{and_parts, cases_Bool, eqb-true, eq-eqb, or_cases}
+use Rattle.std.proofs.lemmas.Bool.{cases_Bool, eqb-true, eq-eqb, or_cases}
 use Rattle.axis_sets.specs.Sets.{has, members_of}
 use Rattle.board_laws.proofs.Footprint.{no_alarm}
 use Rattle.board_laws.proofs.Zones.{zones_goes, zones_part, zones_step, zones_taking}
@@ -14,11 +14,12 @@ use Rattle.job_types.specs.declared.job.ZoneLine.{ZoneLine}
 use Rattle.order_clocks.specs.Happenings.{axes_freed, happening_of}
 use Rattle.zone_stretches.specs.Occurrences.{Occurrence, act_of, going_on_of, occurrences_in, occurrences_from}
 use Rattle.zone_stretches.specs.Tenures.{carry, changes_hands, is_carried_by}
-use Rattle.sync_types.proofs.BoardTests.{no_truth, among_kept, passes, not_not, some_pass}
+use Rattle.sync_types.proofs.BoardTests.{first_passes, no_truth, passes, not_not, some_pass}
+use Rattle.sync_types.proofs.TakenAxes.{taken_is_free}
 use Rattle.sync_types.specs.BoardActions.{after_part, after_own_part, axes_to_free, carries, channels_started, holder_after, ownership_after}
 use Rattle.sync_types.specs.BoardAlarms.{alarm_of, lets_go_of_others}
-use Rattle.sync_types.specs.Boards.{Ownership, OwnedBy, FreeAt, Board, among, is_free, is_this, owner_of, owns}
-use Rattle.sync_types.specs.GoingOn.{Going, after_goes, after_taking, all_takings, axes_to_take, axes_asked, going_at_once, going_of_start, going_of_taker, goers_at_once, goings_on, holder_after_taking, next_taker, takings, takings_from}
+use Rattle.sync_types.specs.Boards.{Ownership, OwnedBy, FreeAt, Board, among, channel_numbers, is_free, is_this, owner_of, owns}
+use Rattle.sync_types.specs.GoingOn.{Going, after_goes, after_taking, all_takings, axes_to_take, can_take, going_at_once, going_of_start, going_of_taker, goers_at_once, goings_on, holder_after_taking, next_taker, takings, takings_from}
 use Rattle.sync_types.specs.Starts.{axes_of_zone}
 use Rattle.sync_types.specs.Turns.{Move, after_step, goings_in_step}
 use Rattle.sync_types.specs.declared.Action.{Action}
@@ -220,14 +221,11 @@ bare_hands zone owner i all f (c ∷ cs) none =
       subst (λ (p : Option ℕ). owners_next zone p (map (going_on_of i all) (map f cs)) ≡ owner) (sym same) rest.1,
     )
 
--- the axes that a channel takes are free
-taken_free : (b : Board) (c x : ℕ) → among (axes_to_take b c) x ≡ true → is_free (b.axis x) ≡ true
-taken_free b c x on = (and_parts (among (axes_asked (b.state c)) x) (is_free (b.axis x)) (sym (among_kept (λ a. is_free (b.axis a)) (axes_asked (b.state c)) x) ∙ on)).1
-
-taker_none : (b : Board) (c : ℕ) (zone : ZoneLine) → Zones b → IsFor zone b → carry zone (among (axes_to_take b c)) ≡ true → b.holder zone.zone ≡ None
-taker_none b c zone zones for on =
+-- who takes the axes of a zone takes them from nobody
+taker_none : (b : Board) (c : ℕ) (zone : ZoneLine) → can_take b c ≡ true → Zones b → IsFor zone b → carry zone (among (axes_to_take b c)) ≡ true → b.holder zone.zone ≡ None
+taker_none b c zone takes zones for on =
     let w = carry_from zone (among (axes_to_take b c)) on in
-    sym (zones.owner zone.zone w.0 (for w.0 ∙ w.1)) ∙ free_none (b.axis w.0) (taken_free b c w.0 w.2)
+    sym (zones.owner zone.zone w.0 (for w.0 ∙ w.1)) ∙ free_none (b.axis w.0) (taken_is_free b c w.0 takes w.2)
 
 taker_holder : (b : Board) (c : ℕ) (zone : ZoneLine) → IsFor zone b → (after_taking b c).holder zone.zone ≡ cond (carry zone (among (axes_to_take b c))) (Some c) (b.holder zone.zone)
 unfolding holder_after_taking
@@ -241,12 +239,12 @@ record TakenOn (zone : ZoneLine) (i : ℕ) (all goings : List Going) (b after : 
 
 takings_hands : (n : ℕ) (b : Board) (zone : ZoneLine) (i : ℕ) (all : List Going) → Zones b → IsFor zone b → TakenOn zone i all (takings n b).goings b (takings n b).board
 takings_hands zero b zone i all zones for = record { hands = tt; holder = refl; start = refl }
-takings_hands (suc n) b zone i all zones for = next (takings_hands n) (next_taker b)
+takings_hands (suc n) b zone i all zones for = next (takings_hands n) (next_taker b) refl
   where
     next : ((a : Board) (z : ZoneLine) (j : ℕ) (gs : List Going) → Zones a → IsFor z a → TakenOn z j gs (takings n a).goings a (takings n a).board)
-        → (taker : Option ℕ) → TakenOn zone i all (takings_from (takings n) b taker).goings b (takings_from (takings n) b taker).board
-    next rest None = record { hands = tt; holder = refl; start = refl }
-    next rest (Some c) =
+        → (taker : Option ℕ) → next_taker b ≡ taker → TakenOn zone i all (takings_from (takings n) b taker).goings b (takings_from (takings n) b taker).board
+    next rest None is = record { hands = tt; holder = refl; start = refl }
+    next rest (Some c) is =
         let more = rest (after_taking b c) zone i all (zones_taking b c zones) for in
         let gs : List Going = (takings n (after_taking b c)).goings in
         let same : owner_next zone (b.holder zone.zone) (going_on_of i all (going_of_taker b c)) ≡ (after_taking b c).holder zone.zone =
@@ -255,7 +253,7 @@ takings_hands (suc n) b zone i all zones for = next (takings_hands n) (next_take
           hands = (
             (λ on. no_truth (carry zone (λ axis. false)) on (carry_none zone)),
             (λ on. no_truth (carry zone (λ axis. false)) on (carry_none zone)),
-            (λ on. taker_none b c zone zones for on),
+            (λ on. taker_none b c zone (first_passes (can_take b) channel_numbers c is) zones for on),
             subst (λ (p : Option ℕ). HandsAre zone p (map (going_on_of i all) gs)) (sym same) more.hands,
           );
           holder = subst (λ (p : Option ℕ). owners_next zone p (map (going_on_of i all) gs) ≡ (takings n (after_taking b c)).board.holder zone.zone) (sym same) more.holder;

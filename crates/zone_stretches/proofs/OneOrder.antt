@@ -7,9 +7,8 @@ use Rattle.job_types.specs.Job.{JobView}
 use Rattle.job_types.specs.declared.job.ZoneLine.{ZoneLine}
 use Rattle.order_clocks.specs.Before.{Before}
 use Rattle.order_clocks.specs.Clocked.{IsOrderOf, moves_in}
-use Rattle.order_clocks.specs.Tells.{is_same_event}
 use Rattle.sync_types.specs.Boards.{Board}
-use Rattle.sync_types.specs.Events.{IsLowestName}
+use Rattle.sync_types.specs.Events.{IsLowestName, is_same_event}
 use Rattle.sync_types.specs.Turns.{Move}
 use Rattle.sync_types.specs.Views.{RunView}
 use Rattle.sync_types.specs.declared.runs.EventId.{EventId}

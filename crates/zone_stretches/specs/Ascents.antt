@@ -1,8 +1,8 @@
 -- Steps. Stretches of a zone of which each is over as the next begins, and those of them that may overlap a stretch of another zone.
 use Rattle.std.specs.Prelude.{◌≡◌, ◌<◌, ◌≤◌, ◌&&◌, ◌||◌, not, suc, ℕ, Bool, true, false, if◌then◌else◌, All, List, [], ◌∷◌, drop, length, slice_index_or, take, Option, Some, None}
 use Rattle.order_clocks.specs.Clocked.{IsOrderOf}
-use Rattle.order_clocks.specs.Tells.{is_same_event}
 use Rattle.sync_types.specs.Boards.{Board}
+use Rattle.sync_types.specs.Events.{is_same_event}
 use Rattle.sync_types.specs.Turns.{Move}
 use Rattle.sync_types.specs.declared.runs.EventId.{EventId}
 use Rattle.zone_stretches.specs.Overlaps.{Order, is_open_at}

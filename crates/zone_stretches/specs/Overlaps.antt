@@ -5,7 +5,7 @@ use Rattle.job_types.specs.Axes.{is_of}
 use Rattle.job_types.specs.Job.{JobView}
 use Rattle.job_types.specs.Zones.{zones_in_order}
 use Rattle.job_types.specs.declared.job.ZoneLine.{ZoneLine}
-use Rattle.order_clocks.specs.Tells.{is_same_event}
+use Rattle.sync_types.specs.Events.{is_same_event}
 use Rattle.sync_types.specs.declared.runs.EventId.{EventId}
 use Rattle.zone_stretches.specs.Stretches.{StretchView, StretchesView}
 use Rattle.zone_stretches.specs.declared.stretches.ZoneBox.{ZoneBox}

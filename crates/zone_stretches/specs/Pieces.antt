@@ -1,5 +1,5 @@
 -- Meaning. When two boxes of zones meet: by the pieces of their motions.
-use Rattle.std.specs.Prelude.{ℕ, ℤ, ◌+◌, ◌-◌, ◌==◌, Bool, List, [], ◌∷◌, map, slice_get, slice_index_or, Option, None, Some, find}
+use Rattle.std.specs.Prelude.{ℕ, ℤ, ◌+◌, ◌==◌, Bool, List, [], ◌∷◌, map, Option, None, Some, find}
 use Rattle.std.specs.List.{list_any}
 use Rattle.std.specs.Option.{option_and_then, option_map_or}
 use Rattle.job_types.specs.Job.{JobView}
@@ -9,7 +9,7 @@ use Rattle.swept_boxes.specs.Boxes.{low_of, high_of, boxes_meet}
 use Rattle.swept_boxes.specs.Pieces.{pieces_at}
 use Rattle.swept_boxes.specs.Ranges.{RangesView}
 use Rattle.swept_boxes.specs.declared.Box3.{Box3}
-use Rattle.sync_types.specs.Items.{motion_of}
+use Rattle.sync_types.specs.Items.{motion_at as motion_of_place}
 use Rattle.sync_types.specs.Views.{RunView}
 use Rattle.zone_stretches.specs.Overlaps.{BoxPlace, Pair}
 use Rattle.zone_stretches.specs.ZoneBoxes.{side_low, side_high}
@@ -40,7 +40,7 @@ piece_box margin sides ranges cover = record {
 
 -- the motion of a place of an entry; none where the box stands
 abbrev pub motion_at : RunView → ℕ → Option ℕ → Option Motion
-motion_at run entry place = option_and_then (λ k. option_and_then motion_of (slice_get (slice_index_or run.items entry []) (k - 1))) place
+motion_at run entry place = option_and_then (motion_of_place run entry) place
 
 -- the boxes of a zone in the pieces of its motion at this depth; a box that stands is one piece
 abbrev pub boxes_in_pieces : ℤ → ℕ → List Side → Box3 → Option Motion → List Box3

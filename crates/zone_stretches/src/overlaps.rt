@@ -1,7 +1,8 @@
 //! Which stretches of two zones may overlap, and which of their boxes are compared.
 ghost use Rattle.std.specs.Prelude.{◌≡◌, ◌||◌, not};
 ghost use Rattle.job_types.specs.Axes.{is_of};
-ghost use Rattle.order_clocks.specs.Tells.{is_before_in, is_same_event};
+ghost use Rattle.order_clocks.specs.Tells.{is_before_in};
+ghost use Rattle.sync_types.specs.Events.{is_same_event};
 ghost use Rattle.zone_stretches.specs.Overlaps as model;
 
 use crate::{Stretch, ZoneBox};

@@ -1,5 +1,5 @@
 //! The boxes by which a box of a zone is compared: those of the pieces of its motion.
-ghost use Rattle.std.specs.Prelude.{◌≡◌, ◌<◌, ◌≤◌, [], ◌∷◌, ◌-◌, All, IfSome, map, option_copied, slice_get};
+ghost use Rattle.std.specs.Prelude.{◌≡◌, ◌<◌, ◌≤◌, [], ◌∷◌, ◌-◌, All, IfSome, map, option_copied};
 ghost use Rattle.job_lines.specs.declared.limits.TheConstants.{DEPTH_LIMIT};
 ghost use Rattle.path_geometry.specs.Motions.{IsSound};
 ghost use Rattle.swept_boxes.specs.Boxes.{low_of, high_of};
@@ -14,14 +14,7 @@ use job_types::{Job, Side, ZoneLine};
 use micro_units::Um;
 use path_geometry::Motion;
 use swept_boxes::{Box3, PIECE_LIMIT, Ranges, pieces_of};
-use sync_types::{Item, Run};
-
-/// The item of this number.
-fn item_at(items: &[Item], place: usize) -> Option<&Item>
-    ensures { option_copied result ≡ slice_get items.now place }
-{
-    items.get(place)
-}
+use sync_types::Run;
 
 /// The motion of a place of an entry of a run, as a box names it; none where the box stands.
 pub fn motion_at(run: &Run, entry: u32, place: Option<u32>) -> Option<&Motion>
@@ -29,13 +22,7 @@ pub fn motion_at(run: &Run, entry: u32, place: Option<u32>) -> Option<&Motion>
 {
     match place {
         None => None,
-        Some(place) => match item_at(
-            run.items_at(entry as usize),
-            (place as usize).saturating_sub(1),
-        ) {
-            None => None,
-            Some(item) => item.motion(),
-        },
+        Some(place) => run.motion_at(entry, place),
     }
 }
 

@@ -1,6 +1,6 @@
 use Rattle.std.proofs.Common.{◌≡◌, drop}
 use Rattle.std.specs.List.{list_any}
-use Rattle.channel_machine.specs.Run.{is_motion}
+use Rattle.sync_types.specs.Items.{is_motion}
 use Rattle.channel_machine.proofs.passing.has_motion.Given as goal
 
 abbrev pub invariant-loop-item : goal.invariant-loop-item

@@ -2,7 +2,7 @@ use Rattle.std.proofs.Common.{◌∙◌, List, ap, subst}
 use Rattle.std.specs.List.{list_any}
 use Rattle.channel_machine.specs.Kept.{Advances, state_view}
 use Rattle.sync_types.specs.declared.Item.{Item}
-use Rattle.channel_machine.specs.Run.{is_motion}
+use Rattle.sync_types.specs.Items.{is_motion}
 use Rattle.channel_machine.proofs.PassedBlocks.{passes}
 use Rattle.channel_machine.proofs.passing.pass_state.Goals as goal
 

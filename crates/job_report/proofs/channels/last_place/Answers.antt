@@ -5,7 +5,7 @@ use Rattle.std.specs.List.{enumerate_from, filter_map, last_or}
 use Rattle.job_report.specs.Channels.{last_place, own_place}
 use Rattle.job_report.proofs.RowLemmas.{Stands, Stands-numbered, last-taken, last-passed}
 use Rattle.job_report.proofs.channels.last_place.Goals as goal
-use Rattle.job_report.proofs.channels.last_place.Goals.{then-is_step_of, else-is_step_of}
+use Rattle.job_report.proofs.channels.last_place.Goals.{then-is_of, else-is_of}
 use Rattle.sync_types.specs.Views.{EntryView}
 
 own : (channel place : ℕ) (entry : EntryView) → (entry.channel == channel) ≡ true → own_place channel (place, entry) ≡ Some place
@@ -21,10 +21,10 @@ loop-place-preserved c =
     let test = own_place c.args.channel in
     let row = enumerate_from 0 c.args.entries.now in
     let at : Stands row place (place, entry) = Stands-numbered c.args.entries.now place entry c.loop-place-test.true c.index-entries-place.is in
-    elim c.if-is_step_of.branch [
-      | then-is_step_of w ↦ w.last-is ∙ sym (last-taken test row place (place, entry) place at (own c.args.channel place entry (sym c.is_step_of.ensures ∙ w.if-is_step_of.true)))
-      | else-is_step_of w ↦ w.last-is ∙ c.loop-place.invariant
-          ∙ sym (last-passed test row place (place, entry) at (foreign c.args.channel place entry (sym c.is_step_of.ensures ∙ w.if-is_step_of.false)))
+    elim c.if-is_of.branch [
+      | then-is_of w ↦ w.last-is ∙ sym (last-taken test row place (place, entry) place at (own c.args.channel place entry (sym c.is_of.ensures ∙ w.if-is_of.true)))
+      | else-is_of w ↦ w.last-is ∙ c.loop-place.invariant
+          ∙ sym (last-passed test row place (place, entry) at (foreign c.args.channel place entry (sym c.is_of.ensures ∙ w.if-is_of.false)))
     ]
 
 pub returns : goal.returns

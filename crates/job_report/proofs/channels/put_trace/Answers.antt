@@ -7,7 +7,7 @@ use Rattle.job_report.specs.Channels.{entry_lines, own_lines, trace_lines}
 use Rattle.job_report.proofs.PageLemmas.{Prints-next, Puts-next}
 use Rattle.job_report.proofs.RowLemmas.{Stands, Stands-numbered, flat_map-next}
 use Rattle.job_report.proofs.channels.put_trace.Goals as goal
-use Rattle.job_report.proofs.channels.put_trace.Goals.{then-is_step_of+in_ok-put_entry, else-is_step_of}
+use Rattle.job_report.proofs.channels.put_trace.Goals.{then-is_of+in_ok-put_entry, else-is_of}
 use Rattle.sync_types.specs.Views.{EntryView, RunView}
 
 own : (job : JobView) (run : RunView) (channel : ℕ) (silent : Option ℕ) (place : ℕ) (entry : EntryView) → (entry.channel == channel) ≡ true
@@ -32,7 +32,7 @@ returns-in_err-put_entry-clause-text g c =
     let entry = c.entry-item.result in
     let run = c.args.run.now in
     let same : c.deref-entry-items.result.now ≡ run.entries = c.deref-entry-items.ensures.value ∙ ap (λ (r : RunView). r.entries) c.run.view_is in
-    let mine : (entry.channel == c.args.channel) ≡ true = sym c.is_step_of.ensures ∙ c.if-is_step_of.true in
+    let mine : (entry.channel == c.args.channel) ≡ true = sym c.is_of.ensures ∙ c.if-is_of.true in
     Puts-next _ _ _ _ (own_lines c.args.job.now run c.args.channel c.args.silent) (enumerate_from 0 run.entries) place (place, entry)
     (here _ _ place entry same c.loop-place-test.true c.entry-item.is)
     c.loop-place.invariant.text c.from_residual.ensures.0
@@ -47,18 +47,18 @@ loop-place-preserved g c =
     let row = enumerate_from 0 run.entries in
     let same : c.deref-entry-items.result.now ≡ run.entries = c.deref-entry-items.ensures.value ∙ ap (λ (r : RunView). r.entries) c.run.view_is in
     let at : Stands row place (place, entry) = here _ _ place entry same c.loop-place-test.true c.entry-item.is in
-    elim c.if-is_step_of.branch [
-      | then-is_step_of+in_ok-put_entry w ↦ record {
+    elim c.if-is_of.branch [
+      | then-is_of+in_ok-put_entry w ↦ record {
         text = rw (w.page-is, w.sink-is) (Prints-next _ _ _ lines row place (place, entry) at c.loop-place.invariant.text
-            (rw (own c.args.job.now run c.args.channel c.args.silent place entry (sym c.is_step_of.ensures ∙ w.if-is_step_of.true)) w.in_ok-put_entry.ensures.text));
+            (rw (own c.args.job.now run c.args.channel c.args.silent place entry (sym c.is_of.ensures ∙ w.if-is_of.true)) w.in_ok-put_entry.ensures.text));
         faults = rw w.sink-is (w.in_ok-put_entry.ensures.cause ∙ c.loop-place.invariant.faults);
       }
-      | else-is_step_of w ↦ record {
+      | else-is_of w ↦ record {
         text = rw (
           w.page-is,
           w.sink-is,
           flat_map-next lines row place (place, entry) at,
-          foreign c.args.job.now run c.args.channel c.args.silent place entry (sym c.is_step_of.ensures ∙ w.if-is_step_of.false),
+          foreign c.args.job.now run c.args.channel c.args.silent place entry (sym c.is_of.ensures ∙ w.if-is_of.false),
           append-nil,
         ) c.loop-place.invariant.text;
         faults = rw w.sink-is c.loop-place.invariant.faults;

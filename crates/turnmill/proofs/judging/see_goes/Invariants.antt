@@ -1,8 +1,0 @@
--- So many steps were seen.
-use Rattle.std.proofs.Common.{◌≤◌, All, take, length}
-use Rattle.axis_sets.specs.declared.limits.TheConstants.{CHANNEL_LIMIT}
-use Rattle.sync_types.specs.Views.{EntryView}
-use Rattle.turnmill.proofs.judging.see_goes.Given as goal
-
-abbrev pub invariant-loop-entry : goal.invariant-loop-entry
-invariant-loop-entry l = All (λ (e : EntryView). length e.goes ≤ CHANNEL_LIMIT) (take l.entry-index l.entry-items)
