@@ -9,4 +9,5 @@ pub mod Symbols
 pub mod Syntax
 pub mod Tree
 pub mod Value
+pub mod Values
 pub mod Stops

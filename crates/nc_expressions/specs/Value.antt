@@ -12,6 +12,7 @@ use Rattle.nc_expressions.specs.declared.trees.BinaryOp.{BinaryOp}
 use Rattle.nc_expressions.specs.declared.trees.BinaryOp.TheVariants.{Add, Sub, Mul, Div, WholeDiv, Modulo, And, Or, Xor, Equal, NotEqual, Greater, Less, GreaterEqual, LessEqual}
 use Rattle.nc_expressions.specs.Symbols.{truth, index_of}
 use Rattle.nc_expressions.specs.Tree.{Tree, Number, Parameter, Indexed, Unary, Binary}
+use Rattle.nc_expressions.specs.Values.{Values}
 use Rattle.micro_units.specs.declared.limits.TheConstants.{NUMBER_LIMIT}
 use Rattle.fault_codes.specs.declared.alarms.TheConstants.{NUMBER_TOO_LARGE, DIVISION_BY_ZERO, NEGATIVE_ROOT, PARAMETER_INDEX}
 
@@ -68,18 +69,18 @@ binary_value GreaterEqual x y = Ok (truth (not (int_lt x y)))
 binary_value LessEqual x y = Ok (truth (not (int_lt y x)))
 
 -- an alarm where an index is no number of a parameter
-abbrev pub at_index : (ℕ → ℤ) → Option ℕ → Result ℤ ℕ
-at_index parameters (Some i) = Ok (parameters i)
-at_index parameters None = Err PARAMETER_INDEX
+abbrev pub at_index : Values → Option ℕ → Result ℤ ℕ
+at_index values (Some i) = Ok (values.parameter i)
+at_index values None = Err PARAMETER_INDEX
 
--- the value where the parameters have these values
-abbrev pub value_of : (ℕ → ℤ) → Tree → Result ℤ ℕ
-value_of parameters (Number n) = Ok n
-value_of parameters (Parameter i) = Ok (parameters i)
-value_of parameters (Indexed t) = value_of parameters t >>= λ z. at_index parameters (index_of z)
-value_of parameters (Unary op t) = value_of parameters t >>= λ z. unary_value op z
-value_of parameters (Binary op a b) =
-    value_of parameters a >>= λ x. value_of parameters b >>= λ y. binary_value op x y
+-- the value where an expression reads these values
+abbrev pub value_of : Values → Tree → Result ℤ ℕ
+value_of values (Number n) = Ok n
+value_of values (Parameter i) = Ok (values.parameter i)
+value_of values (Indexed t) = value_of values t >>= λ z. at_index values (index_of z)
+value_of values (Unary op t) = value_of values t >>= λ z. unary_value op z
+value_of values (Binary op a b) =
+    value_of values a >>= λ x. value_of values b >>= λ y. binary_value op x y
 
 -- a number, or the alarm in place of its fault
 abbrev pub number_or_alarm : Result Num NumFault → Result ℤ ℕ

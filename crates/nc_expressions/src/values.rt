@@ -13,15 +13,19 @@ use crate::trees::{BinaryOp, Expr, UnaryOp};
 use fault_codes::alarms::{DIVISION_BY_ZERO, NEGATIVE_ROOT, NUMBER_TOO_LARGE, PARAMETER_INDEX};
 use micro_units::{Num, NumFault};
 
-/// The values of the 1,000 parameters.
+/// What an expression reads: the values of the 1,000 parameters.
 pub trait Names {
-    /// The value of each parameter.
-    ghost parameter: { Self → ℕ → ℤ };
+    ghost use Rattle.std.specs.Prelude.{◌≡◌, ◌≤◌};
+    ghost use Rattle.nc_expressions.specs.Values.{Values};
+    ghost use Rattle.nc_expressions.specs.declared.limits.TheConstants.{LAST_PARAMETER};
+
+    /// What an expression reads.
+    ghost values: { Self → Values };
 
     /// The value of the parameter of this number, at most `LAST_PARAMETER`.
     fn parameter(&self, index: u16) -> Num
         requires { index ≤ LAST_PARAMETER }
-        ensures { result ≡ parameter self.now index };
+        ensures { result ≡ (values self.now).parameter index };
 }
 
 /// The value of an expression, or the first alarm from left to right: 1 where a result is out of
@@ -29,7 +33,7 @@ pub trait Names {
 /// index in brackets is no number of a parameter.
 pub fn eval<N: Names>(expr: &Expr, names: &N) -> Result<Num, u16>
     requires { IndicesFit (tree_of expr.now) }
-    ensures { result ≡ value_of (N.parameter names.now) (tree_of expr.now) }
+    ensures { result ≡ value_of (N.values names.now) (tree_of expr.now) }
 {
     match expr {
         Expr::Number(number) => Ok(*number),
@@ -52,7 +56,7 @@ pub fn eval<N: Names>(expr: &Expr, names: &N) -> Result<Num, u16>
 
 /// The parameter whose number is a value.
 fn at_index<N: Names>(names: &N, index: Num) -> Result<Num, u16>
-    ensures { result ≡ at_index (N.parameter names.now) (index_of index) }
+    ensures { result ≡ at_index (N.values names.now) (index_of index) }
 {
     match index_of(index) {
         Some(index) => Ok(names.parameter(index)),
