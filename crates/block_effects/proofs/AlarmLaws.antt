@@ -25,14 +25,15 @@ use Rattle.nc_expressions.specs.declared.trees.BinaryOp.TheVariants.{Add, Sub, M
 use Rattle.nc_expressions.specs.Symbols.{index_of}
 use Rattle.nc_expressions.specs.Tree.{Tree, Number, Parameter, Indexed, Unary, Binary}
 use Rattle.nc_expressions.specs.Value.{◌>>=◌, in_range_or_alarm, quotient_or_alarm, root_or_alarm, unary_value, binary_value, at_index, value_of}
+use Rattle.nc_expressions.specs.Values.{Values}
 use Rattle.fault_codes.specs.Codes.{IsAlarmCode, alarm_codes}
 use Rattle.nc_blocks.specs.declared.blocks.FrameWord.{FrameWord}
 use Rattle.nc_blocks.specs.declared.blocks.FrameWord.TheVariants.{Trans, Atrans, Scale, Ascale, Mirror, Amirror}
 use Rattle.nc_blocks.specs.Statement.{OperandView, Value, Text, AxisName, WordView, Assign, AssignAt, G, Axis, Radius, Aux, End, Statement, WordBlock, IfJump, If, While, Until, For, EndFor, Case, RepeatFrom, RepeatBlock, Call, Shape, Turn}
 use Rattle.path_geometry.specs.declared.motion.Motion.{Motion}
-use Rattle.block_effects.specs.Words.{SetupView, Progress, parameter_in, value_in, index_in, first_progress, assignment, given_at, increment, with_parameters, with_targets, programmed_value, slot_named, is_in_slot, programmed_once, slot_programmed, named_programmed, programmed_by, centre_named, with_centre_word, with_radius, with_arc_words, word_progress, option_read, operand_read, aux_read, word_done, words_done}
+use Rattle.block_effects.specs.Words.{SetupView, Progress, parameter_in, values_in, index_in, first_progress, assignment, given_at, increment, with_parameters, with_targets, programmed_value, slot_named, is_in_slot, programmed_once, slot_programmed, named_programmed, programmed_by, centre_named, with_centre_word, with_radius, with_arc_words, word_progress, option_read, operand_read, aux_read, word_done, words_done}
 use Rattle.block_effects.specs.Shapes.{values_done, no_values, unless_alarmed, chain_with, shape_chain, turn_chain, plane_of, shaped_by, turned_by}
-use Rattle.block_effects.specs.Effects.{SituationView, word_in, in_force, is_arc, has_stray_words, stands_still, motion_made, moved_or_still, words_moved, words_run, words_effect, group_words, frame_effect, bound_course, for_continued, times_in, times_of, repetition_course, library_number, number_of, control_effect, effect_of}
+use Rattle.block_effects.specs.Effects.{SituationView, word_in, in_force, is_arc, has_stray_words, stands_still, motion_made, moved_or_still, words_moved, words_run, words_effect, group_words, frame_effect, Course, leaving, bound_course, bound_turning, for_continued, times_in, times_of, repetition_course, library_number, number_of, call_course, control_effect, effect_of}
 use Rattle.block_effects.proofs.EffectSteps.{left}
 
 -- the codes that a run can end with
@@ -151,19 +152,19 @@ binary_listed Less x y = tt
 binary_listed GreaterEqual x y = tt
 binary_listed LessEqual x y = tt
 
-at_index_listed : (parameters : ℕ → ℤ) (o : Option ℕ) → IsListed (at_index parameters o)
-at_index_listed parameters None = listed_4
-at_index_listed parameters (Some i) = tt
+at_index_listed : (values : Values) (o : Option ℕ) → IsListed (at_index values o)
+at_index_listed values None = listed_4
+at_index_listed values (Some i) = tt
 
-value_listed : (parameters : ℕ → ℤ) (tree : Tree) → IsListed (value_of parameters tree)
-value_listed parameters (Number n) = tt
-value_listed parameters (Parameter i) = tt
-value_listed parameters (Indexed t) =
-    bind_listed (value_of parameters t) (λ z. at_index parameters (index_of z)) (value_listed parameters t) (λ z. at_index_listed parameters (index_of z))
-value_listed parameters (Unary op t) = bind_listed (value_of parameters t) (λ z. unary_value op z) (value_listed parameters t) (λ z. unary_listed op z)
-value_listed parameters (Binary op a b) =
-    bind_listed (value_of parameters a) (λ x. value_of parameters b >>= λ y. binary_value op x y) (value_listed parameters a)
-    (λ x. bind_listed (value_of parameters b) (λ y. binary_value op x y) (value_listed parameters b) (λ y. binary_listed op x y))
+value_listed : (values : Values) (tree : Tree) → IsListed (value_of values tree)
+value_listed values (Number n) = tt
+value_listed values (Parameter i) = tt
+value_listed values (Indexed t) =
+    bind_listed (value_of values t) (λ z. at_index values (index_of z)) (value_listed values t) (λ z. at_index_listed values (index_of z))
+value_listed values (Unary op t) = bind_listed (value_of values t) (λ z. unary_value op z) (value_listed values t) (λ z. unary_listed op z)
+value_listed values (Binary op a b) =
+    bind_listed (value_of values a) (λ x. value_of values b >>= λ y. binary_value op x y) (value_listed values a)
+    (λ x. bind_listed (value_of values b) (λ y. binary_value op x y) (value_listed values b) (λ y. binary_listed op x y))
 
 -- ---- words
 
@@ -173,11 +174,11 @@ index_listed (Some i) = tt
 
 given_listed : (parameters : List ℤ) (index : ℕ) (tree : Tree) → IsListed (assignment parameters index tree)
 given_listed parameters index tree =
-    bind_listed (value_in parameters tree) (λ value. Ok (set parameters index value)) (value_listed (parameter_in parameters) tree) (λ value. tt)
+    bind_listed (value_of (values_in parameters) tree) (λ value. Ok (set parameters index value)) (value_listed (values_in parameters) tree) (λ value. tt)
 
 given_at_listed : (parameters : List ℤ) (at tree : Tree) → IsListed (given_at parameters at tree)
 given_at_listed parameters at tree =
-    bind_listed (value_in parameters at) (λ z. index_in (index_of z) >>= λ index. assignment parameters index tree) (value_listed (parameter_in parameters) at)
+    bind_listed (value_of (values_in parameters) at) (λ z. index_in (index_of z) >>= λ index. assignment parameters index tree) (value_listed (values_in parameters) at)
     (λ z. bind_listed (index_in (index_of z)) (λ index. assignment parameters index tree) (index_listed (index_of z)) (λ index. given_listed parameters index tree))
 
 counted_listed : (parameters : List ℤ) (index : ℕ) → IsListed (increment parameters index)
@@ -239,14 +240,14 @@ rounded_listed words value = by_word (is_some words.radius)
     by_word true = listed_17
     by_word false = tt
 
-option_listed : (parameters : List ℤ) (o : Option Tree) → IsListed (option_read parameters o)
-option_listed parameters None = tt
-option_listed parameters (Some tree) = bind_listed (value_in parameters tree) (λ value. Ok (Some value)) (value_listed (parameter_in parameters) tree) (λ value. tt)
+option_listed : (values : Values) (o : Option Tree) → IsListed (option_read values o)
+option_listed values None = tt
+option_listed values (Some tree) = bind_listed (value_of values tree) (λ value. Ok (Some value)) (value_listed values tree) (λ value. tt)
 
-operand_listed : (parameters : List ℤ) (operand : OperandView) → IsListed (operand_read parameters operand)
-operand_listed parameters (Value tree) = bind_listed (value_in parameters tree) (λ value. Ok (Some value)) (value_listed (parameter_in parameters) tree) (λ value. tt)
-operand_listed parameters (Text bytes) = tt
-operand_listed parameters (AxisName bytes) = tt
+operand_listed : (values : Values) (operand : OperandView) → IsListed (operand_read values operand)
+operand_listed values (Value tree) = bind_listed (value_of values tree) (λ value. Ok (Some value)) (value_listed values tree) (λ value. tt)
+operand_listed values (Text bytes) = tt
+operand_listed values (AxisName bytes) = tt
 
 module _ (equipment : SetupView) where
   addressed_listed : (p : Progress) (name : List ℕ) (o : Option ℕ) (value : Programmed) → IsListed (word_progress equipment p name o value)
@@ -260,14 +261,14 @@ module _ (equipment : SetupView) where
   word_listed p (AssignAt at tree) = assigned_listed p (given_at p.parameters at tree) (given_at_listed p.parameters at tree)
   word_listed p (G group code) = tt
   word_listed p (Axis name measure tree) =
-      bind_listed (value_in p.parameters tree) (λ value. word_progress equipment p name (centre_named name) (programmed_value measure value))
-      (value_listed (parameter_in p.parameters) tree) (λ value. addressed_listed p name (centre_named name) (programmed_value measure value))
+      bind_listed (value_of (values_in p.parameters) tree) (λ value. word_progress equipment p name (centre_named name) (programmed_value measure value))
+      (value_listed (values_in p.parameters) tree) (λ value. addressed_listed p name (centre_named name) (programmed_value measure value))
   word_listed p (Radius tree) =
-      bind_listed (value_in p.parameters tree) (λ value. with_arc_words p (with_radius p.arc value)) (value_listed (parameter_in p.parameters) tree)
+      bind_listed (value_of (values_in p.parameters) tree) (λ value. with_arc_words p (with_radius p.arc value)) (value_listed (values_in p.parameters) tree)
       (λ value. curved_listed p (with_radius p.arc value) (rounded_listed p.arc value))
   word_listed p (Aux name index operand) =
-      bind_listed (aux_read p.parameters index operand) (λ _. Ok p)
-      (bind_listed (option_read p.parameters index) (λ _. operand_read p.parameters operand) (option_listed p.parameters index) (λ _. operand_listed p.parameters operand))
+      bind_listed (aux_read (values_in p.parameters) index operand) (λ _. Ok p)
+      (bind_listed (option_read (values_in p.parameters) index) (λ _. operand_read (values_in p.parameters) operand) (option_listed (values_in p.parameters) index) (λ _. operand_listed (values_in p.parameters) operand))
       (λ _. tt)
   word_listed p End = tt
 
@@ -371,11 +372,11 @@ unfolding turn_chain
 turned_listed chain plane false angle = added_listed [] (turns plane angle)
 turned_listed chain plane true angle = added_listed chain (turns plane angle)
 
-values_listed : (parameters : List ℤ) (row : List (Option ℤ)) (words : List (ℕ × Tree)) → IsListed (values_done parameters row words)
-values_listed parameters row [] = tt
-values_listed parameters row ((axis, tree) ∷ more) =
-    bind_listed (value_in parameters tree) (λ value. values_done parameters (set row axis (Some value)) more) (value_listed (parameter_in parameters) tree)
-    (λ value. values_listed parameters (set row axis (Some value)) more)
+values_listed : (values : Values) (row : List (Option ℤ)) (words : List (ℕ × Tree)) → IsListed (values_done values row words)
+values_listed values row [] = tt
+values_listed values row ((axis, tree) ∷ more) =
+    bind_listed (value_of values tree) (λ value. values_done values (set row axis (Some value)) more) (value_listed values tree)
+    (λ value. values_listed values (set row axis (Some value)) more)
 
 framed_listed : (found : SituationView) (made : Result (List Map) ℕ) → IsListed made → IsListed (frame_effect found made)
 framed_listed found made listed = bind_listed made _ listed (λ chain. tt)
@@ -383,15 +384,20 @@ framed_listed found made listed = bind_listed made _ listed (λ chain. tt)
 -- ---- control
 
 -- a value, and what is done with it
-after_value : {A : Type 0} (parameters : List ℤ) (tree : Tree) (f : ℤ → Result A ℕ) → ((z : ℤ) → IsListed (f z)) → IsListed (value_in parameters tree >>= f)
-after_value parameters tree f each = bind_listed (value_in parameters tree) f (value_listed (parameter_in parameters) tree) each
+after_value : {A : Type 0} (values : Values) (tree : Tree) (f : ℤ → Result A ℕ) → ((z : ℤ) → IsListed (f z)) → IsListed (value_of values tree >>= f)
+after_value values tree f each = bind_listed (value_of values tree) f (value_listed values tree) each
 
-bounded_listed : (parameters : List ℤ) (index : ℕ) (bound : Tree) → IsListed (bound_course parameters index bound)
-bounded_listed parameters index bound = after_value parameters bound _ (λ value. tt)
+-- a course, where the parameters are left as they are
+left_listed : (parameters : List ℤ) (course : Result Course ℕ) → IsListed course → IsListed (leaving parameters course)
+left_listed parameters course listed = bind_listed course _ listed (λ found. tt)
+
+bounded_listed : (parameters : List ℤ) (index : ℕ) (bound : Tree) → IsListed (bound_turning parameters index bound)
+bounded_listed parameters index bound =
+    left_listed parameters (bound_course (values_in parameters) index bound) (after_value (values_in parameters) bound _ (λ value. tt))
 
 continued_listed : (parameters : List ℤ) (opener : Statement) → IsListed (for_continued parameters opener)
 continued_listed parameters (For index first bound) =
-    bind_listed (increment parameters index) (λ p. bound_course p index bound) (counted_listed parameters index) (λ p. bounded_listed p index bound)
+    bind_listed (increment parameters index) (λ p. bound_turning p index bound) (counted_listed parameters index) (λ p. bounded_listed p index bound)
 continued_listed parameters other = tt
 
 times_in_listed : (z : ℤ) → IsListed (times_in z)
@@ -399,43 +405,51 @@ unfolding times_in
 times_in_listed (pos n) = unless (n % 1000000 == 0 && nat_lt n 10000000000) (n / 1000000) 33 listed_33
 times_in_listed (negsuc n) = listed_33
 
-times_listed : (parameters : List ℤ) (times : Option Tree) → IsListed (times_of parameters times)
-times_listed parameters None = tt
-times_listed parameters (Some tree) = after_value parameters tree (λ value. times_in value) (λ value. times_in_listed value)
+times_listed : (values : Values) (times : Option Tree) → IsListed (times_of values times)
+times_listed values None = tt
+times_listed values (Some tree) = after_value values tree (λ value. times_in value) (λ value. times_in_listed value)
 
-repeated_listed : (parameters : List ℤ) (times : Option Tree) → IsListed (repetition_course parameters times)
-repeated_listed parameters times = bind_listed (times_of parameters times) _ (times_listed parameters times) (λ n. tt)
+repeated_listed : (values : Values) (times : Option Tree) → IsListed (repetition_course values times)
+repeated_listed values times = bind_listed (times_of values times) _ (times_listed values times) (λ n. tt)
 
 called_listed : (number : Option ℕ) → IsListed (library_number number)
 called_listed None = listed_7
 called_listed (Some number) = tt
 
 module _ (names : List (List ℕ)) (parameters : List ℤ) (opener : Statement) where
+  -- a value that decides on the course
+  deciding_listed : (tree : Tree) (f : ℤ → Result Course ℕ) → ((z : ℤ) → IsListed (f z)) → IsListed (leaving parameters (value_of (values_in parameters) tree >>= f))
+  deciding_listed tree f each = left_listed parameters (value_of (values_in parameters) tree >>= f) (after_value (values_in parameters) tree f each)
+
+  repeating_listed : (times : Option Tree) → IsListed (leaving parameters (repetition_course (values_in parameters) times))
+  repeating_listed times = left_listed parameters (repetition_course (values_in parameters) times) (repeated_listed (values_in parameters) times)
+
   control_listed : (statement : Statement) → IsListed (control_effect names parameters opener statement)
   unfolding control_effect
-  control_listed (IfJump tree j) = after_value parameters tree _ (λ value. tt)
-  control_listed (If tree) = after_value parameters tree _ (λ value. tt)
-  control_listed (While tree) = after_value parameters tree _ (λ value. tt)
-  control_listed (Until tree) = after_value parameters tree _ (λ value. tt)
+  control_listed (IfJump tree j) = deciding_listed tree _ (λ value. tt)
+  control_listed (If tree) = deciding_listed tree _ (λ value. tt)
+  control_listed (While tree) = deciding_listed tree _ (λ value. tt)
+  control_listed (Until tree) = deciding_listed tree _ (λ value. tt)
   control_listed (For index first bound) =
-      bind_listed (assignment parameters index first) (λ p. bound_course p index bound) (given_listed parameters index first) (λ p. bounded_listed p index bound)
+      bind_listed (assignment parameters index first) (λ p. bound_turning p index bound) (given_listed parameters index first) (λ p. bounded_listed p index bound)
   control_listed EndFor = continued_listed parameters opener
-  control_listed (Case tree pairs default) = after_value parameters tree _ (λ value. tt)
-  control_listed (RepeatFrom name times) = repeated_listed parameters times
-  control_listed (RepeatBlock name times) = repeated_listed parameters times
-  control_listed (Call name passes) = bind_listed (library_number (number_of names name)) _ (called_listed (number_of names name)) (λ number. tt)
+  control_listed (Case tree pairs default) = deciding_listed tree _ (λ value. tt)
+  control_listed (RepeatFrom name times) = repeating_listed times
+  control_listed (RepeatBlock name times) = repeating_listed times
+  control_listed (Call name passes) =
+      left_listed parameters (call_course names name passes) (bind_listed (library_number (number_of names name)) _ (called_listed (number_of names name)) (λ number. tt))
   control_listed other = tt
 
 pub effect_listed : (equipment : SetupView) (found : SituationView) (line : ℕ) (opener statement : Statement) → IsListed (effect_of equipment found line opener statement)
 unfolding effect_of
 effect_listed equipment found line opener (WordBlock words) = words_effect_listed equipment found line (group_words (WordBlock words)) words
 effect_listed equipment found line opener (Shape word values) =
-    framed_listed found (shaped_by found.parameters found.chain word values)
-    (bind_listed (values_done found.parameters no_values values) (λ row. shape_chain found.chain word row) (values_listed found.parameters no_values values)
+    framed_listed found (shaped_by (values_in found.parameters) found.chain word values)
+    (bind_listed (values_done (values_in found.parameters) no_values values) (λ row. shape_chain found.chain word row) (values_listed (values_in found.parameters) no_values values)
     (λ row. shaped_listed found.chain word row))
 effect_listed equipment found line opener (Turn additive angle) =
-    framed_listed found (turned_by found.parameters found.chain (plane_of (word_in found [] 6)) additive angle)
-    (bind_listed (option_read found.parameters angle) (λ value. turn_chain found.chain (plane_of (word_in found [] 6)) additive value) (option_listed found.parameters angle)
+    framed_listed found (turned_by (values_in found.parameters) found.chain (plane_of (word_in found [] 6)) additive angle)
+    (bind_listed (option_read (values_in found.parameters) angle) (λ value. turn_chain found.chain (plane_of (word_in found [] 6)) additive value) (option_listed (values_in found.parameters) angle)
     (λ value. turned_listed found.chain (plane_of (word_in found [] 6)) additive value))
 effect_listed equipment found line opener statement =
     bind_listed (control_effect equipment.names found.parameters opener statement) _ (control_listed equipment.names found.parameters opener statement) (λ t. tt)

@@ -15,7 +15,7 @@ use Rattle.nc_blocks.specs.Statement.{WordView, Statement, WordBlock, Shape, Tur
 use Rattle.path_geometry.specs.declared.motion.Motion.{Motion}
 use Rattle.sync_types.specs.declared.Item.{Item}
 use Rattle.sync_types.specs.Items.{movement_of}
-use Rattle.block_effects.specs.Words.{SetupView, first_progress, words_done}
+use Rattle.block_effects.specs.Words.{SetupView, first_progress, values_in, words_done}
 use Rattle.block_effects.specs.Shapes.{plane_of, shaped_by, turned_by}
 use Rattle.block_effects.specs.Effects.{Effect, Turning, SituationView, word_in, in_force, item_on, is_arc, has_stray_words, stands_still, motion_made, moved_or_still, words_moved, words_run, words_effect, group_words, frame_effect, turned_only, control_effect, effect_of}
 use Rattle.block_effects.proofs.EffectSteps.{left}
@@ -81,8 +81,8 @@ module _ (equipment : SetupView) (found : SituationView) (line : ℕ) where
   effect_moves : (opener statement : Statement) → Moves (effect_of equipment found line opener statement)
   unfolding effect_of
   effect_moves opener (WordBlock words) = words_move (group_words (WordBlock words)) words
-  effect_moves opener (Shape word values) = framed_still (shaped_by found.parameters found.chain word values)
-  effect_moves opener (Turn additive angle) = framed_still (turned_by found.parameters found.chain (plane_of (word_in found [] 6)) additive angle)
+  effect_moves opener (Shape word values) = framed_still (shaped_by (values_in found.parameters) found.chain word values)
+  effect_moves opener (Turn additive angle) = framed_still (turned_by (values_in found.parameters) found.chain (plane_of (word_in found [] 6)) additive angle)
   effect_moves opener statement = turned_still (control_effect equipment.names found.parameters opener statement)
 
   -- the motion of a block is one from where the axes stand

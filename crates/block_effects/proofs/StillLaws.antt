@@ -4,11 +4,13 @@ use Rattle.frames.specs.Maps.{Map}
 use Rattle.g_groups.specs.Modal.{has_group_twice}
 use Rattle.g_groups.specs.declared.GWord.{GWord}
 use Rattle.nc_expressions.specs.Tree.{Tree}
-use Rattle.nc_expressions.specs.Value.{◌>>=◌}
+use Rattle.nc_expressions.specs.Value.{◌>>=◌, value_of}
+use Rattle.nc_control_flow.specs.Moves as outcome
+use Rattle.std.specs.Prelude.{not, int_lt}
 use Rattle.nc_blocks.specs.Statement.{WordView, Statement, WordBlock, Shape, Turn, Jump, IfJump, If, While, Until, For, EndFor, Case, RepeatFrom, RepeatBlock, Call}
-use Rattle.block_effects.specs.Words.{SetupView, first_progress, increment, assignment, value_in, words_done}
+use Rattle.block_effects.specs.Words.{SetupView, first_progress, increment, assignment, parameter_in, values_in, words_done}
 use Rattle.block_effects.specs.Shapes.{plane_of, shaped_by, turned_by}
-use Rattle.block_effects.specs.Effects.{Effect, Turning, SituationView, IsStill, searches, word_in, words_moved, words_run, words_effect, course_of, group_words, frame_effect, turned_only, bound_course, for_continued, times_of, library_number, number_of, control_effect, effect_of}
+use Rattle.block_effects.specs.Effects.{Course, Goes, Effect, Turning, SituationView, IsStill, searches, word_in, words_moved, words_run, words_effect, course_of, group_words, frame_effect, turned_only, leaving, jump_course, choice, condition_course, bound_turning, for_continued, repetition_course, call_course, control_effect, effect_of}
 use Rattle.block_effects.proofs.EffectSteps.{left}
 
 module _ (parameters : List ℤ) where
@@ -21,8 +23,17 @@ module _ (parameters : List ℤ) where
   keeps_bind (Ok x) f each = each x
   keeps_bind (Err code) f each = tt
 
-  bounded_keeps : (ps : List ℤ) (index : ℕ) (bound : Tree) → Keeps (bound_course ps index bound)
-  bounded_keeps ps index bound = keeps_bind (value_in ps bound) _ (λ value is. absurd cc)
+  -- a course, where the parameters are left as they are
+  left_keeps : (course : Result Course ℕ) → Keeps (leaving parameters course)
+  left_keeps (Ok found) = λ is. refl
+  left_keeps (Err code) = tt
+
+  bounded_keeps : (ps : List ℤ) (index : ℕ) (bound : Tree) → Keeps (bound_turning ps index bound)
+  bounded_keeps ps index bound = by_value (value_of (values_in ps) bound)
+    where
+      by_value : (r : Result ℤ ℕ) → Keeps (leaving ps (r >>= λ value. Ok (Goes (outcome.Truth (not (int_lt value (parameter_in ps index)))))))
+      by_value (Ok value) = λ is. absurd cc
+      by_value (Err code) = tt
 
   continued_keeps : (opener : Statement) → Keeps (for_continued parameters opener)
   continued_keeps (For index first bound) = keeps_bind (increment parameters index) _ (λ ps. bounded_keeps ps index bound)
@@ -31,16 +42,16 @@ module _ (parameters : List ℤ) where
   control_keeps : (names : List (List ℕ)) (opener statement : Statement) → Keeps (control_effect names parameters opener statement)
   unfolding control_effect
   control_keeps names opener (Jump j) = λ is. refl
-  control_keeps names opener (IfJump tree j) = keeps_bind (value_in parameters tree) _ (λ value is. refl)
-  control_keeps names opener (If tree) = keeps_bind (value_in parameters tree) _ (λ value is. refl)
-  control_keeps names opener (While tree) = keeps_bind (value_in parameters tree) _ (λ value is. refl)
-  control_keeps names opener (Until tree) = keeps_bind (value_in parameters tree) _ (λ value is. refl)
+  control_keeps names opener (IfJump tree j) = left_keeps (jump_course (values_in parameters) tree j)
+  control_keeps names opener (If tree) = left_keeps (condition_course (values_in parameters) tree)
+  control_keeps names opener (While tree) = left_keeps (condition_course (values_in parameters) tree)
+  control_keeps names opener (Until tree) = left_keeps (condition_course (values_in parameters) tree)
   control_keeps names opener (For index first bound) = keeps_bind (assignment parameters index first) _ (λ ps. bounded_keeps ps index bound)
   control_keeps names opener EndFor = continued_keeps opener
-  control_keeps names opener (Case tree pairs default) = keeps_bind (value_in parameters tree) _ (λ value is. refl)
-  control_keeps names opener (RepeatFrom name times) = keeps_bind (times_of parameters times) _ (λ n is. refl)
-  control_keeps names opener (RepeatBlock name times) = keeps_bind (times_of parameters times) _ (λ n is. refl)
-  control_keeps names opener (Call name passes) = keeps_bind (library_number (number_of names name)) _ (λ number is. refl)
+  control_keeps names opener (Case tree pairs default) = left_keeps (choice (values_in parameters) tree pairs default)
+  control_keeps names opener (RepeatFrom name times) = left_keeps (repetition_course (values_in parameters) times)
+  control_keeps names opener (RepeatBlock name times) = left_keeps (repetition_course (values_in parameters) times)
+  control_keeps names opener (Call name passes) = left_keeps (call_course names name passes)
   control_keeps names opener other = λ is. refl
 
 module _ (equipment : SetupView) (found : SituationView) (line : ℕ) where
@@ -79,8 +90,8 @@ module _ (equipment : SetupView) (found : SituationView) (line : ℕ) where
   effect_stays : (opener statement : Statement) → Stays (effect_of equipment found line opener statement)
   unfolding effect_of
   effect_stays opener (WordBlock words) = words_stay (group_words (WordBlock words)) words
-  effect_stays opener (Shape word values) = framed_stays (shaped_by found.parameters found.chain word values)
-  effect_stays opener (Turn additive angle) = framed_stays (turned_by found.parameters found.chain (plane_of (word_in found [] 6)) additive angle)
+  effect_stays opener (Shape word values) = framed_stays (shaped_by (values_in found.parameters) found.chain word values)
+  effect_stays opener (Turn additive angle) = framed_stays (turned_by (values_in found.parameters) found.chain (plane_of (word_in found [] 6)) additive angle)
   effect_stays opener statement =
       turned_stays (control_effect equipment.names found.parameters opener statement) (control_keeps found.parameters equipment.names opener statement)
 

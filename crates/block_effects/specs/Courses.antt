@@ -78,6 +78,10 @@ Shapes made result frame = MatchResult result (λ _. IsMade made frame) (λ code
 abbrev pub turning_of : List ℤ → answer.Course → Turning
 turning_of parameters course = record { parameters = parameters; course = course_view course }
 
+-- a block leads on by this course, or alarms
+abbrev pub Leads : Result Course ℕ → Result answer.Course ℕ → Type 0
+Leads course result = MatchResult result (λ found. course ≡ Ok (course_view found)) (λ code. course ≡ Err code)
+
 abbrev pub Turns : Result Turning ℕ → Result answer.Course ℕ → List ℤ → Type 0
 Turns turning result parameters = MatchResult result (λ course. turning ≡ Ok (turning_of parameters course)) (λ code. turning ≡ Err code)
 

@@ -17,12 +17,13 @@ use Rattle.nc_blocks.specs.Statement.{WordView, G, Statement, WordBlock, Jump, I
 use Rattle.nc_control_flow.specs.Moves.{OutcomeView}
 use Rattle.nc_control_flow.specs.Moves as outcome
 use Rattle.nc_expressions.specs.Tree.{Tree}
-use Rattle.nc_expressions.specs.Value.{◌>>=◌, is_true}
+use Rattle.nc_expressions.specs.Value.{◌>>=◌, is_true, value_of}
+use Rattle.nc_expressions.specs.Values.{Values}
 use Rattle.path_geometry.specs.declared.motion.Motion.{Motion}
 use Rattle.sync_types.specs.declared.Item.{Item}
 use Rattle.sync_types.specs.declared.Part.TheVariants.{Move}
 use Rattle.block_effects.specs.Shapes.{shaped_by, turned_by, plane_of}
-use Rattle.block_effects.specs.Words.{SetupView, Progress, parameter_in, value_in, assignment, increment, first_progress, words_done}
+use Rattle.block_effects.specs.Words.{SetupView, Progress, values_in, assignment, increment, first_progress, words_done}
 use Rattle.fault_codes.specs.declared.alarms.TheConstants.{REPETITION_COUNT, NO_SUCH_PROGRAM, ARC_WORDS, GROUP_TWICE}
 use Rattle.g_groups.specs.declared.numbers.TheConstants.{MOTION_GROUP, DWELL_GROUP, AREA_GROUP, PLANE_GROUP, OFFSET_GROUP}
 use Rattle.nc_blocks.specs.declared.limits.TheConstants.{PASS_LIMIT}
@@ -49,6 +50,10 @@ pub record Turning : Type 0 where
 abbrev pub course_by : List ℤ → OutcomeView → Turning
 course_by parameters outcome = record { parameters = parameters; course = Goes outcome }
 
+-- a block that gives no parameter a value leaves these parameters and takes this course
+abbrev pub leaving : List ℤ → Result Course ℕ → Result Turning ℕ
+leaving parameters found = found >>= λ course. Ok (record { parameters = parameters; course = course })
+
 -- ---- jumps
 
 abbrev pub jump_outcome : JumpTo → OutcomeView
@@ -71,30 +76,36 @@ first_equal value pairs = option_map (λ pair. pair.1) (find (λ pair. int_eq va
 abbrev pub case_outcome : ℤ → List (ℤ × JumpTo) → Option JumpTo → OutcomeView
 case_outcome value pairs default = jumped_some (option_or (first_equal value pairs) default)
 
-abbrev pub jump_course : List ℤ → Tree → JumpTo → Result Turning ℕ
-jump_course parameters tree j = value_in parameters tree >>= λ value. Ok (course_by parameters (jumped_if (is_true value) j))
+-- a jump where a condition holds
+abbrev pub jump_course : Values → Tree → JumpTo → Result Course ℕ
+jump_course values tree j = value_of values tree >>= λ value. Ok (Goes (jumped_if (is_true value) j))
 
-abbrev pub choice : List ℤ → Tree → List (ℤ × JumpTo) → Option JumpTo → Result Turning ℕ
-choice parameters tree pairs default = value_in parameters tree >>= λ value. Ok (course_by parameters (case_outcome value pairs default))
+-- the jump that a value chooses
+abbrev pub choice : Values → Tree → List (ℤ × JumpTo) → Option JumpTo → Result Course ℕ
+choice values tree pairs default = value_of values tree >>= λ value. Ok (Goes (case_outcome value pairs default))
 
 -- ---- conditions
 
 -- a condition holds where its value is not 0
-abbrev pub condition_course : List ℤ → Tree → Result Turning ℕ
-condition_course parameters tree = value_in parameters tree >>= λ value. Ok (course_by parameters (outcome.Truth (is_true value)))
+abbrev pub condition_course : Values → Tree → Result Course ℕ
+condition_course values tree = value_of values tree >>= λ value. Ok (Goes (outcome.Truth (is_true value)))
 
 -- once more round a FOR, where its parameter is not above the bound
-abbrev pub bound_course : List ℤ → ℕ → Tree → Result Turning ℕ
-bound_course parameters index bound =
-    value_in parameters bound >>= λ value. Ok (course_by parameters (outcome.Truth (not (int_lt value (parameter_in parameters index)))))
+abbrev pub bound_course : Values → ℕ → Tree → Result Course ℕ
+bound_course values index bound =
+    value_of values bound >>= λ value. Ok (Goes (outcome.Truth (not (int_lt value (values.parameter index)))))
+
+-- the same where these parameters are left
+abbrev pub bound_turning : List ℤ → ℕ → Tree → Result Turning ℕ
+bound_turning parameters index bound = leaving parameters (bound_course (values_in parameters) index bound)
 
 -- FOR sets its parameter and then looks at its bound
 abbrev pub for_begun : List ℤ → ℕ → Tree → Tree → Result Turning ℕ
-for_begun parameters index first bound = assignment parameters index first >>= λ p. bound_course p index bound
+for_begun parameters index first bound = assignment parameters index first >>= λ p. bound_turning p index bound
 
 -- ENDFOR adds 1 to the parameter of its FOR and then looks at the bound
 abbrev pub once_more : List ℤ → ℕ → Tree → Result Turning ℕ
-once_more parameters index bound = increment parameters index >>= λ p. bound_course p index bound
+once_more parameters index bound = increment parameters index >>= λ p. bound_turning p index bound
 
 abbrev pub for_continued : List ℤ → Statement → Result Turning ℕ
 for_continued parameters (For index first bound) = once_more parameters index bound
@@ -108,12 +119,13 @@ times_in (pos n) = if n % 1000000 == 0 && nat_lt n ((PASS_LIMIT + 1) * 1000000) 
 times_in (negsuc n) = Err REPETITION_COUNT
 
 -- without a number it is once
-abbrev pub times_of : List ℤ → Option Tree → Result ℕ ℕ
-times_of parameters None = Ok 1
-times_of parameters (Some tree) = value_in parameters tree >>= λ value. times_in value
+abbrev pub times_of : Values → Option Tree → Result ℕ ℕ
+times_of values None = Ok 1
+times_of values (Some tree) = value_of values tree >>= λ value. times_in value
 
-abbrev pub repetition_course : List ℤ → Option Tree → Result Turning ℕ
-repetition_course parameters times = times_of parameters times >>= λ n. Ok (course_by parameters (outcome.Again n))
+-- a repetition, so many times
+abbrev pub repetition_course : Values → Option Tree → Result Course ℕ
+repetition_course values times = times_of values times >>= λ n. Ok (Goes (outcome.Again n))
 
 -- ---- calls
 
@@ -127,25 +139,24 @@ library_number (Some number) = Ok number
 library_number None = Err NO_SUCH_PROGRAM
 
 -- the program of this name runs so many times
-abbrev pub call_course : List (List ℕ) → List ℤ → List ℕ → ℕ → Result Turning ℕ
-call_course names parameters name passes =
-    library_number (number_of names name) >>= λ number. Ok (record { parameters = parameters; course = Calls number passes })
+abbrev pub call_course : List (List ℕ) → List ℕ → ℕ → Result Course ℕ
+call_course names name passes = library_number (number_of names name) >>= λ number. Ok (Calls number passes)
 
 -- ---- blocks
 
 -- what a block does that moves no axis and shapes no frame, or its first alarm
 unfoldable pub control_effect : List (List ℕ) → List ℤ → Statement → Statement → Result Turning ℕ
 control_effect names parameters opener (Jump j) = Ok (course_by parameters (jump_outcome j))
-control_effect names parameters opener (IfJump tree j) = jump_course parameters tree j
-control_effect names parameters opener (If tree) = condition_course parameters tree
-control_effect names parameters opener (While tree) = condition_course parameters tree
-control_effect names parameters opener (Until tree) = condition_course parameters tree
+control_effect names parameters opener (IfJump tree j) = leaving parameters (jump_course (values_in parameters) tree j)
+control_effect names parameters opener (If tree) = leaving parameters (condition_course (values_in parameters) tree)
+control_effect names parameters opener (While tree) = leaving parameters (condition_course (values_in parameters) tree)
+control_effect names parameters opener (Until tree) = leaving parameters (condition_course (values_in parameters) tree)
 control_effect names parameters opener (For index first bound) = for_begun parameters index first bound
 control_effect names parameters opener EndFor = for_continued parameters opener
-control_effect names parameters opener (Case tree pairs default) = choice parameters tree pairs default
-control_effect names parameters opener (RepeatFrom name times) = repetition_course parameters times
-control_effect names parameters opener (RepeatBlock name times) = repetition_course parameters times
-control_effect names parameters opener (Call name passes) = call_course names parameters name passes
+control_effect names parameters opener (Case tree pairs default) = leaving parameters (choice (values_in parameters) tree pairs default)
+control_effect names parameters opener (RepeatFrom name times) = leaving parameters (repetition_course (values_in parameters) times)
+control_effect names parameters opener (RepeatBlock name times) = leaving parameters (repetition_course (values_in parameters) times)
+control_effect names parameters opener (Call name passes) = leaving parameters (call_course names name passes)
 control_effect names parameters opener Return = Ok (record { parameters = parameters; course = Ends })
 control_effect names parameters opener other = Ok (course_by parameters outcome.Plain)
 
@@ -240,9 +251,9 @@ turned_only found turning =
 unfoldable pub effect_of : SetupView → SituationView → ℕ → Statement → Statement → Result Effect ℕ
 effect_of equipment found line opener (WordBlock words) = words_effect equipment found line (group_words (WordBlock words)) words
 effect_of equipment found line opener (Shape word values) =
-    frame_effect found (shaped_by found.parameters found.chain word values)
+    frame_effect found (shaped_by (values_in found.parameters) found.chain word values)
 effect_of equipment found line opener (Turn additive angle) =
-    frame_effect found (turned_by found.parameters found.chain (plane_of (word_in found [] PLANE_GROUP)) additive angle)
+    frame_effect found (turned_by (values_in found.parameters) found.chain (plane_of (word_in found [] PLANE_GROUP)) additive angle)
 effect_of equipment found line opener other = turned_only found (control_effect equipment.names found.parameters opener other)
 
 -- whether a block with this course looks for where it leads, and may find nothing: it jumps, repeats or calls

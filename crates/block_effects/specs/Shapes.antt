@@ -8,13 +8,14 @@ use Rattle.frames.specs.declared.Plane.TheVariants.{G17, G18, G19}
 use Rattle.nc_blocks.specs.declared.blocks.FrameWord.{FrameWord}
 use Rattle.nc_blocks.specs.declared.blocks.FrameWord.TheVariants.{Trans, Atrans, Scale, Ascale, Mirror, Amirror}
 use Rattle.nc_expressions.specs.Tree.{Tree}
-use Rattle.nc_expressions.specs.Value.{◌>>=◌}
-use Rattle.block_effects.specs.Words.{value_in, option_read}
+use Rattle.nc_expressions.specs.Value.{◌>>=◌, value_of}
+use Rattle.nc_expressions.specs.Values.{Values}
+use Rattle.block_effects.specs.Words.{option_read}
 
 -- the values of the words X, Y and Z, found from left to right
-abbrev pub values_done : List ℤ → List (Option ℤ) → List (ℕ × Tree) → Result (List (Option ℤ)) ℕ
-values_done parameters row [] = Ok row
-values_done parameters row ((axis, tree) ∷ more) = value_in parameters tree >>= λ value. values_done parameters (slice_set row axis (Some value)) more
+abbrev pub values_done : Values → List (Option ℤ) → List (ℕ × Tree) → Result (List (Option ℤ)) ℕ
+values_done values row [] = Ok row
+values_done values row ((axis, tree) ∷ more) = value_of values tree >>= λ value. values_done values (slice_set row axis (Some value)) more
 
 -- no value
 unfoldable pub no_values : List (Option ℤ)
@@ -43,12 +44,12 @@ turn_chain chain plane false angle = chain_with [] (turns plane angle)
 turn_chain chain plane true angle = chain_with chain (turns plane angle)
 
 -- what a block makes of the chain that is a frame word and the words X, Y and Z after it: all values are found before the maps are added
-abbrev pub shaped_by : List ℤ → List Map → FrameWord → List (ℕ × Tree) → Result (List Map) ℕ
-shaped_by parameters chain word words = values_done parameters no_values words >>= λ row. shape_chain chain word row
+abbrev pub shaped_by : Values → List Map → FrameWord → List (ℕ × Tree) → Result (List Map) ℕ
+shaped_by values chain word words = values_done values no_values words >>= λ row. shape_chain chain word row
 
 -- and one that is ROT or AROT with this angle
-abbrev pub turned_by : List ℤ → List Map → Plane → Bool → Option Tree → Result (List Map) ℕ
-turned_by parameters chain plane additive angle = option_read parameters angle >>= λ value. turn_chain chain plane additive value
+abbrev pub turned_by : Values → List Map → Plane → Bool → Option Tree → Result (List Map) ℕ
+turned_by values chain plane additive angle = option_read values angle >>= λ value. turn_chain chain plane additive value
 
 -- the plane of a word of its group
 unfoldable pub plane_of : ℕ → Plane

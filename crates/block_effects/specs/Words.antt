@@ -10,6 +10,7 @@ use Rattle.nc_blocks.specs.declared.blocks.Measure.{Measure}
 use Rattle.nc_expressions.specs.Symbols.{index_of}
 use Rattle.nc_expressions.specs.Tree.{Tree}
 use Rattle.nc_expressions.specs.Value.{◌>>=◌, in_range_or_alarm, value_of}
+use Rattle.nc_expressions.specs.Values.{Values}
 use Rattle.nc_blocks.specs.Statement.{OperandView, Value, Text, AxisName, WordView, Assign, AssignAt, G, Axis, Radius, Aux, End}
 use Rattle.block_effects.specs.declared.parameters.Change.{Change}
 use Rattle.block_effects.specs.declared.progress.WordsDone.{WordsDone}
@@ -27,13 +28,13 @@ parameter_in parameters index = slice_index_or parameters index (pos 0)
 unfoldable pub zeros : List ℤ
 zeros = replicate PARAMETER_LIMIT (pos 0)
 
--- the value of an expression where the parameters have these values
-abbrev pub value_in : List ℤ → Tree → Result ℤ ℕ
-value_in parameters tree = value_of (parameter_in parameters) tree
+-- what an expression reads where the parameters have these values
+abbrev pub values_in : List ℤ → Values
+values_in parameters = record { parameter = parameter_in parameters }
 
 -- a parameter gets the value of an expression
 abbrev pub assignment : List ℤ → ℕ → Tree → Result (List ℤ) ℕ
-assignment parameters index tree = value_in parameters tree >>= λ value. Ok (slice_set parameters index value)
+assignment parameters index tree = value_of (values_in parameters) tree >>= λ value. Ok (slice_set parameters index value)
 
 -- a parameter becomes 1 more; an alarm where it leaves the range
 abbrev pub increment : List ℤ → ℕ → Result (List ℤ) ℕ
@@ -135,7 +136,7 @@ first_progress parameters = record { parameters = parameters; targets = nothing_
 
 -- the index comes before the value
 abbrev pub given_at : List ℤ → Tree → Tree → Result (List ℤ) ℕ
-given_at parameters at tree = value_in parameters at >>= λ z. index_in (index_of z) >>= λ index. assignment parameters index tree
+given_at parameters at tree = value_of (values_in parameters) at >>= λ z. index_in (index_of z) >>= λ index. assignment parameters index tree
 
 -- a word changes the parameters alone
 abbrev pub with_parameters : Progress → Result (List ℤ) ℕ → Result Progress ℕ
@@ -153,18 +154,19 @@ abbrev pub programmed_value : Measure → ℤ → Programmed
 programmed_value measure value = record { measure = measure; value = value }
 
 -- a value that is found and not used
-abbrev pub option_read : List ℤ → Option Tree → Result (Option ℤ) ℕ
-option_read parameters None = Ok None
-option_read parameters (Some tree) = value_in parameters tree >>= λ value. Ok (Some value)
+abbrev pub option_read : Values → Option Tree → Result (Option ℤ) ℕ
+option_read values None = Ok None
+option_read values (Some tree) = value_of values tree >>= λ value. Ok (Some value)
 
-abbrev pub operand_read : List ℤ → OperandView → Result (Option ℤ) ℕ
-operand_read parameters (Value tree) = value_in parameters tree >>= λ value. Ok (Some value)
-operand_read parameters (Text bytes) = Ok None
-operand_read parameters (AxisName bytes) = Ok None
+-- the value of an operand, where it has one
+abbrev pub operand_read : Values → OperandView → Result (Option ℤ) ℕ
+operand_read values (Value tree) = value_of values tree >>= λ value. Ok (Some value)
+operand_read values (Text bytes) = Ok None
+operand_read values (AxisName bytes) = Ok None
 
 -- the bracket comes before the operand
-abbrev pub aux_read : List ℤ → Option Tree → OperandView → Result (Option ℤ) ℕ
-aux_read parameters index operand = option_read parameters index >>= λ _. operand_read parameters operand
+abbrev pub aux_read : Values → Option Tree → OperandView → Result (Option ℤ) ℕ
+aux_read values index operand = option_read values index >>= λ _. operand_read values operand
 
 -- I, J and K are words of the centre, and all others program axes
 abbrev pub word_progress : SetupView → Progress → List ℕ → Option ℕ → Programmed → Result Progress ℕ
@@ -177,9 +179,9 @@ word_done equipment p (Assign index tree) = with_parameters p (assignment p.para
 word_done equipment p (AssignAt at tree) = with_parameters p (given_at p.parameters at tree)
 word_done equipment p (G group code) = Ok p
 word_done equipment p (Axis name measure tree) =
-    value_in p.parameters tree >>= λ value. word_progress equipment p name (centre_named name) (programmed_value measure value)
-word_done equipment p (Radius tree) = value_in p.parameters tree >>= λ value. with_arc_words p (with_radius p.arc value)
-word_done equipment p (Aux name index operand) = aux_read p.parameters index operand >>= λ _. Ok p
+    value_of (values_in p.parameters) tree >>= λ value. word_progress equipment p name (centre_named name) (programmed_value measure value)
+word_done equipment p (Radius tree) = value_of (values_in p.parameters) tree >>= λ value. with_arc_words p (with_radius p.arc value)
+word_done equipment p (Aux name index operand) = aux_read (values_in p.parameters) index operand >>= λ _. Ok p
 word_done equipment p End = Ok (record p { ends = true })
 
 -- one word after another; the first alarm counts

@@ -9,7 +9,7 @@ ghost use Rattle.nc_expressions.specs.Value as values;
 ghost use Rattle.block_effects.specs.Words as words;
 ghost use Rattle.block_effects.specs.Words.{IsGiven};
 ghost use Rattle.block_effects.specs.Effects as model;
-ghost use Rattle.block_effects.specs.Courses.{Turns};
+ghost use Rattle.block_effects.specs.Courses.{Leads, Turns};
 ghost use Rattle.nc_expressions.specs.declared.limits.TheConstants.{LAST_PARAMETER};
 
 use crate::course::{Course, Setup};
@@ -82,7 +82,7 @@ pub(crate) fn leap<'a>(
     jump: &'a JumpTo,
 ) -> Result<Course<'a>, u16>
     requires { IndicesFit (tree_of condition.now) }
-    ensures { Turns (model.jump_course parameters.now (tree_of condition.now) jump.now) result parameters.now }
+    ensures { Leads (model.jump_course (words.values_in parameters.now) (tree_of condition.now) jump.now) result }
 {
     let value = eval(condition, parameters)?;
     Ok(Course::Goes(jumped_if(is_true(value), jump)))
@@ -96,7 +96,7 @@ pub(crate) fn choice<'a>(
     default: &'a Option<JumpTo>,
 ) -> Result<Course<'a>, u16>
     requires { IndicesFit (tree_of value.now) }
-    ensures { Turns (model.choice parameters.now (tree_of value.now) pairs.now default.now) result parameters.now }
+    ensures { Leads (model.choice (words.values_in parameters.now) (tree_of value.now) pairs.now default.now) result }
 {
     let value = eval(value, parameters)?;
     Ok(Course::Goes(chosen(value, pairs, default)))
@@ -107,7 +107,7 @@ pub(crate) fn choice<'a>(
 /// A block with a condition.
 pub(crate) fn conditional<'a>(parameters: &Parameters, condition: &Expr) -> Result<Course<'a>, u16>
     requires { IndicesFit (tree_of condition.now) }
-    ensures { Turns (model.condition_course parameters.now (tree_of condition.now)) result parameters.now }
+    ensures { Leads (model.condition_course (words.values_in parameters.now) (tree_of condition.now)) result }
 {
     let value = eval(condition, parameters)?;
     Ok(Course::Goes(Outcome::Truth(is_true(value))))
@@ -117,7 +117,7 @@ pub(crate) fn conditional<'a>(parameters: &Parameters, condition: &Expr) -> Resu
 fn bounded<'a>(parameters: &Parameters, index: u16, bound: &Expr) -> Result<Course<'a>, u16>
     requires index { index ≤ LAST_PARAMETER }
     requires fits { IndicesFit (tree_of bound.now) }
-    ensures { Turns (model.bound_course parameters.now index (tree_of bound.now)) result parameters.now }
+    ensures { Leads (model.bound_course (words.values_in parameters.now) index (tree_of bound.now)) result }
 {
     let bound = eval(bound, parameters)?;
     let value = parameters.parameter(index);
@@ -134,7 +134,7 @@ fn bounded_after<'a>(
     requires index { index ≤ LAST_PARAMETER }
     requires change { change.index ≤ LAST_PARAMETER }
     requires fits { IndicesFit (tree_of bound.now) }
-    ensures turns { Turns (model.bound_course parameters.old index (tree_of bound.now)) result parameters.new }
+    ensures turns { Turns (model.bound_turning parameters.old index (tree_of bound.now)) result parameters.new }
     ensures undone { OnErr result (parameters.new ≡ words.parameters_before parameters.old change) }
 {
     match bounded(parameters, index, bound) {
@@ -211,7 +211,7 @@ fn times_in(value: Num) -> Result<u16, u16>
 /// How often a repetition repeats.
 fn times_of(parameters: &Parameters, times: &Option<Expr>) -> Result<u16, u16>
     requires { OptionFits (tree_option times.now) }
-    ensures { result ≡ model.times_of parameters.now (tree_option times.now) }
+    ensures { result ≡ model.times_of (words.values_in parameters.now) (tree_option times.now) }
 {
     match times {
         Some(times) => times_in(eval(times, parameters)?),
@@ -222,7 +222,7 @@ fn times_of(parameters: &Parameters, times: &Option<Expr>) -> Result<u16, u16>
 /// A repetition.
 pub(crate) fn repeat<'a>(parameters: &Parameters, times: &Option<Expr>) -> Result<Course<'a>, u16>
     requires { OptionFits (tree_option times.now) }
-    ensures { Turns (model.repetition_course parameters.now (tree_option times.now)) result parameters.now }
+    ensures { Leads (model.repetition_course (words.values_in parameters.now) (tree_option times.now)) result }
 {
     let times = times_of(parameters, times)?;
     Ok(Course::Goes(Outcome::Again(times)))

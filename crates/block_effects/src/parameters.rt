@@ -40,9 +40,9 @@ impl Model for Parameters {
 }
 
 impl Names for Parameters {
-    ghost use Rattle.block_effects.specs.Words.{parameter_in};
+    ghost use Rattle.block_effects.specs.Words.{values_in};
 
-    ghost parameter = { parameter_in };
+    ghost values = { values_in };
 
     fn parameter(&self, index: u16) -> Num {
         self.values[usize::from(index)]

@@ -170,7 +170,7 @@ fn program_axis<S: Setup>(
 /// The value of an expression, if there is one.
 pub(crate) fn option_read(parameters: &Parameters, value: &Option<Expr>) -> Result<Option<Num>, u16>
     requires { OptionFits (tree_option value.now) }
-    ensures { result ≡ model.option_read parameters.now (tree_option value.now) }
+    ensures { result ≡ model.option_read (model.values_in parameters.now) (tree_option value.now) }
 {
     match value {
         Some(value) => Ok(Some(eval(value, parameters)?)),
@@ -181,7 +181,7 @@ pub(crate) fn option_read(parameters: &Parameters, value: &Option<Expr>) -> Resu
 /// The value of an operand, if it has one.
 fn operand_read(parameters: &Parameters, operand: &Operand) -> Result<Option<Num>, u16>
     requires { OperandFits (operand_view operand.now) }
-    ensures { result ≡ model.operand_read parameters.now (operand_view operand.now) }
+    ensures { result ≡ model.operand_read (model.values_in parameters.now) (operand_view operand.now) }
 {
     match operand {
         Operand::Value(value) => Ok(Some(eval(value, parameters)?)),
@@ -194,7 +194,8 @@ fn operand_read(parameters: &Parameters, operand: &Operand) -> Result<Option<Num
 fn read(parameters: &Parameters, index: &Option<Expr>, operand: &Operand) -> Result<(), u16>
     requires index { OptionFits (tree_option index.now) }
     requires operand { OperandFits (operand_view operand.now) }
-    ensures { IsRead (model.aux_read parameters.now (tree_option index.now) (operand_view operand.now)) result }
+    ensures { IsRead (model.aux_read (model.values_in parameters.now) (tree_option index.now)
+        (operand_view operand.now)) result }
 {
     let _index = option_read(parameters, index)?;
     let _operand = operand_read(parameters, operand)?;

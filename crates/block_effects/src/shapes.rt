@@ -7,6 +7,7 @@ ghost use Rattle.nc_blocks.specs.Indices.{EntryFits, OptionFits};
 ghost use Rattle.nc_blocks.specs.Statement.{frame_entry, tree_option};
 ghost use Rattle.block_effects.specs.Courses.{Shapes};
 ghost use Rattle.block_effects.specs.Shapes as model;
+ghost use Rattle.block_effects.specs.Words.{values_in};
 
 use crate::parameters::Parameters;
 use crate::progress::option_read;
@@ -29,7 +30,7 @@ fn put(row: &mut [Option<Num>; 3], axis: u8, value: Num)
 #[tactic(auto, unfolding(crate::specs::Shapes::no_values))]
 fn values_of(parameters: &Parameters, words: &[(u8, Expr)]) -> Result<[Option<Num>; 3], u16>
     requires { All EntryFits (map frame_entry words.now) }
-    ensures { result ≡ model.values_done parameters.now model.no_values (map frame_entry words.now) }
+    ensures { result ≡ model.values_done (values_in parameters.now) model.no_values (map frame_entry words.now) }
 {
     let mut row = [None; 3];
     for word in words {
@@ -65,7 +66,7 @@ pub(crate) fn shape(
 ) -> Result<(), u16>
     requires { All EntryFits (map frame_entry words.now) }
     ensures shapes { (chain : List Map) → IsComposed chain frame.old
-        → Shapes (model.shaped_by parameters.now chain word (map frame_entry words.now)) result frame.new }
+        → Shapes (model.shaped_by (values_in parameters.now) chain word (map frame_entry words.now)) result frame.new }
     ensures unchanged { OnErr result (frame.new ≡ frame.old) }
 {
     let values = values_of(parameters, words)?;
@@ -96,7 +97,8 @@ pub(crate) fn turn(
 ) -> Result<(), u16>
     requires { OptionFits (tree_option angle.now) }
     ensures shapes { (chain : List Map) → IsComposed chain frame.old
-        → Shapes (model.turned_by parameters.now chain plane additive (tree_option angle.now)) result frame.new }
+        → Shapes (model.turned_by (values_in parameters.now) chain plane additive (tree_option angle.now)) result
+        frame.new }
     ensures unchanged { OnErr result (frame.new ≡ frame.old) }
 {
     let angle = option_read(parameters, angle)?;

@@ -1,7 +1,7 @@
 -- Where the alarm of a block ends a segment, control is on the levels that are told of it, at a block on the line of the alarm.
 use Rattle.std.proofs.Common.{◌≡◌, ◌≢◌, ◌∙◌, ℕ, zero, suc, ◌-◌, ◌==◌, Bool, true, false, cond, List, [], ◌∷◌, length, Option, None, Some, Result, Ok, Err, refl, ap, eqb-true}
 use Rattle.std.specs.Option.{option_map}
-use Rattle.block_effects.specs.Words.{parameter_in}
+use Rattle.block_effects.specs.Words.{values_in}
 use Rattle.coordination_words.specs.declared.asked.Request.{Request}
 use Rattle.coordination_words.specs.declared.asked.Request.TheVariants.{Act, Switch}
 use Rattle.job_types.specs.Job.{JobView}
@@ -67,7 +67,7 @@ module _ (s : SurroundingsView) where
       by_course levels there b here done did (Err alarm) goes each = comes c placed levels there b here done.line alarm did.line
       by_course levels there b here done did (Ok next) goes each =
           by_request done done.request
-          (λ alarm acts. asked_no_alarm (setting_after s c.past) (parameter_in (parameters_after c.past)) b.1.statement alarm (did.asks ∙ ap (λ (r : Option Request). Ok r) acts))
+          (λ alarm acts. asked_no_alarm (setting_after s c.past) (values_in (parameters_after c.past)) b.1.statement alarm (did.asks ∙ ap (λ (r : Option Request). Ok r) acts))
           next (placed_block s c levels there placed done next goes) each
 
       by_end : (levels : Levels) → c.levels ≡ Some levels → (b : ℕ × BlockView) → block_at s levels.here ≡ Some b → (done : Executed) → IsExecuted s c.past levels.here b done → (flag : Bool) → Next more

@@ -5,7 +5,7 @@ use Rattle.std.proofs.lemmas.Bool.Decides.{nat_tests}
 use Rattle.std.proofs.lemmas.List.{length-map}
 use Rattle.axis_sets.specs.Positions.{stands}
 use Rattle.block_effects.specs.Effects.{Course, SituationView, effect_of}
-use Rattle.block_effects.specs.Words.{SetupView, parameter_in}
+use Rattle.block_effects.specs.Words.{SetupView, values_in}
 use Rattle.channel_machine.specs.Coordination.{request_in, setting_in}
 use Rattle.coordination_words.specs.Settings.{SettingView}
 use Rattle.frames.specs.Maps.{Map}
@@ -91,10 +91,10 @@ module _ (job : JobView) (s : SurroundingsView) (c : Channel) (k : StateView) (s
 
   -- what the block asks for, by what is kept
   pub request_there : (statement : Statement)
-      → request_in (setting_in job k.channel k.slots k.axes) (parameter_in k.parameters) statement ≡ request_in (setting_after s c.past) (parameter_in (parameters_after c.past)) statement
+      → request_in (setting_in job k.channel k.slots k.axes) (values_in k.parameters) statement ≡ request_in (setting_after s c.past) (values_in (parameters_after c.past)) statement
   request_there statement =
-      ap (λ (v : SettingView). request_in v (parameter_in k.parameters) statement) (sym setting_is)
-      ∙ ap (λ (ps : List ℤ). request_in (setting_after s c.past) (parameter_in ps) statement) keeps.parameters
+      ap (λ (v : SettingView). request_in v (values_in k.parameters) statement) (sym setting_is)
+      ∙ ap (λ (ps : List ℤ). request_in (setting_after s c.past) (values_in ps) statement) keeps.parameters
     where
       setting_is : setting_after s c.past ≡ setting_in job k.channel k.slots k.axes
       setting_is = rw (set.version, set.channel, set.channels, set.programs, set.axes, set.zones, keeps.slots, keeps.axes) refl

@@ -21,7 +21,7 @@ use Rattle.sync_types.specs.declared.Grant.{Grant}
 use Rattle.sync_types.specs.declared.Action.{Action}
 use Rattle.sync_types.specs.declared.Item.{Item}
 use Rattle.sync_types.specs.declared.Part.TheVariants as part
-use Rattle.block_effects.specs.Words.{parameter_in}
+use Rattle.block_effects.specs.Words.{values_in}
 use Rattle.channel_machine.specs.Coordination.{request_in}
 use Rattle.channel_machine.proofs.Requests.{asked_listed, asks_still, statement_listed}
 use Rattle.coordination_words.specs.declared.asked.Request.{Request}
@@ -77,8 +77,8 @@ bind_ok (Err code) f y is = absurd cc
 module _ (s : SurroundingsView) where
   executed_listed : (past : List Deed) (place : Place) (b : ℕ × BlockView) → IsListed (executed_block s past place b)
   executed_listed past place (line, block) =
-      bind_listed (request_in (setting_after s past) (parameter_in (parameters_after past)) block.statement) _
-      (statement_listed (setting_after s past) (parameter_in (parameters_after past)) block.statement)
+      bind_listed (request_in (setting_after s past) (values_in (parameters_after past)) block.statement) _
+      (statement_listed (setting_after s past) (values_in (parameters_after past)) block.statement)
       (λ request. bind_listed (effect_of (setup_after s past) (found_after s past) line (opener_at s place) block.statement)
       (λ effect. Ok (record { line = line; block = block; request = request; effect = effect }))
       (effect_listed (setup_after s past) (found_after s past) line (opener_at s place) block.statement) (λ effect. tt))
@@ -86,12 +86,12 @@ module _ (s : SurroundingsView) where
   -- how a block was executed
   pub record IsExecuted (past : List Deed) (place : Place) (b : ℕ × BlockView) (done : Executed) : Type 0 where
     pub line : b.0 ≡ done.line
-    pub asks : request_in (setting_after s past) (parameter_in (parameters_after past)) b.1.statement ≡ Ok done.request
+    pub asks : request_in (setting_after s past) (values_in (parameters_after past)) b.1.statement ≡ Ok done.request
     pub leaves : effect_of (setup_after s past) (found_after s past) b.0 (opener_at s place) b.1.statement ≡ Ok done.effect
 
   pub was_executed : (past : List Deed) (place : Place) (b : ℕ × BlockView) (done : Executed) → executed_block s past place b ≡ Ok done → IsExecuted past place b done
   was_executed past place (line, block) done is =
-      let (request, asked, rest) = bind_ok (request_in (setting_after s past) (parameter_in (parameters_after past)) block.statement) _ done is in
+      let (request, asked, rest) = bind_ok (request_in (setting_after s past) (values_in (parameters_after past)) block.statement) _ done is in
       let (effect, made, last) = bind_ok (effect_of (setup_after s past) (found_after s past) line (opener_at s place) block.statement)
       (λ effect. Ok (record { line = line; block = block; request = request; effect = effect })) done rest in
       let left : Executed = record { line = line; block = block; request = request; effect = effect } in
@@ -107,13 +107,13 @@ module _ (s : SurroundingsView) where
       → option_and_then (λ item. end_in axis item) (item_of done) ≡ option_and_then (λ item. end_in axis item) done.effect.item
   item_end past place b done is axis = by_request done.request is.asks
     where
-      by_request : (r : Option Request) → request_in (setting_after s past) (parameter_in (parameters_after past)) b.1.statement ≡ Ok r
+      by_request : (r : Option Request) → request_in (setting_after s past) (values_in (parameters_after past)) b.1.statement ≡ Ok r
           → option_and_then (λ item. end_in axis item) (item_by done.line r done.effect.item) ≡ option_and_then (λ item. end_in axis item) done.effect.item
       by_request None asks = refl
       by_request (Some (Act action)) asks = refl
       by_request (Some (Switch zone on)) asks =
           ap (λ (o : Option Item). option_and_then (λ item. end_in axis item) o)
-          (sym (asks_still (setting_after s past) (parameter_in (parameters_after past)) (setup_after s past) (found_after s past) b.0 (opener_at s place) b.1.statement (Switch zone on) done.effect asks is.leaves))
+          (sym (asks_still (setting_after s past) (values_in (parameters_after past)) (setup_after s past) (found_after s past) b.0 (opener_at s place) b.1.statement (Switch zone on) done.effect asks is.leaves))
 
   -- it moves where its motion does
   item_moves : (axes : List Bool) (at : ℕ → ℤ) (line : ℕ) (request : Option Request) (motion : Option Item) → ((item : Item) → motion ≡ Some item → IsMotionOf axes at (movement_of item))
@@ -235,7 +235,7 @@ module _ (s : SurroundingsView) where
         by_end levels b done is false next =
             let did = was_executed c.past levels.here b done is in
             by_led done
-            (λ action asks. asked_listed (setting_after s c.past) (parameter_in (parameters_after c.past)) b.1.statement action (did.asks ∙ ap (λ (o : Option Request). Ok o) asks))
+            (λ action asks. asked_listed (setting_after s c.past) (values_in (parameters_after c.past)) b.1.statement action (did.asks ∙ ap (λ (o : Option Request). Ok o) asks))
             (levels_after s.skip s.programs levels done.effect.course) (followed_listed s.skip s.programs levels done.effect.course) (holds_more c.past made levels.here b done holds did) next
 
         by_done : (levels : Levels) (b : ℕ × BlockView) (r : Result Executed ℕ) → executed_block s c.past levels.here b ≡ r → IsListed r → Next more

@@ -8,7 +8,7 @@ use Rattle.sync_types.specs.Items.{end_in, StandsAtEnd}
 use Rattle.block_effects.specs.Courses.{IsLeft, Does, course_view}
 use Rattle.block_effects.specs.Effects.{Course, Effect, IsStill, group_words, effect_of}
 use Rattle.block_effects.proofs.StillLaws.{searching_stays}
-use Rattle.block_effects.specs.Words.{parameter_in, zeros}
+use Rattle.block_effects.specs.Words.{values_in, zeros}
 use Rattle.coordination_words.specs.declared.asked.Request.{Request}
 use Rattle.coordination_words.specs.declared.asked.Request.TheVariants.{Act, Switch}
 use Rattle.channel_machine.specs.Coordination.{request_in}
@@ -165,7 +165,7 @@ module _ (s : SurroundingsView) (c : Channel) (k : StateView) (keeps : Keeps s c
       goes more = rw (there, here) refl
 
       abbrev request_here : Result (Option Request) ℕ
-      request_here = request_in (setting_after s c.past) (parameter_in (parameters_after c.past)) block.statement
+      request_here = request_in (setting_after s c.past) (values_in (parameters_after c.past)) block.statement
 
       abbrev effect_here : Result Effect ℕ
       effect_here = effect_of (setup_after s c.past) (found_after s c.past) line (opener_at s levels.here) block.statement
@@ -315,7 +315,7 @@ module _ (s : SurroundingsView) (c : Channel) (k : StateView) (keeps : Keeps s c
                 after = subst (λ (g : SegmentView). Keeps s g.after (kept_after next)) (sym (executed_as ∙ is)) (keeps_after next);
               };
               stays = λ code alarm.
-                  absurd (asked_no_alarm (setting_after s c.past) (parameter_in (parameters_after c.past)) block.statement code
+                  absurd (asked_no_alarm (setting_after s c.past) (values_in (parameters_after c.past)) block.statement code
                   (asks ∙ ap (λ (r : Option Request). Ok r) acts ∙ ap (λ (a : Action). Ok (Some (Act a))) alarm));
               more = one_more (segment_of s c).after.past (ap (λ (g : SegmentView). g.after.past) (executed_as ∙ is));
             }

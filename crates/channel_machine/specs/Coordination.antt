@@ -14,6 +14,7 @@ use Rattle.job_types.specs.declared.job.ChannelLine.{ChannelLine}
 use Rattle.job_types.specs.declared.job.ZoneLine.{ZoneLine}
 use Rattle.nc_blocks.specs.Statement.{Statement, Coord}
 use Rattle.nc_expressions.specs.Value.{◌>>=◌}
+use Rattle.nc_expressions.specs.Values.{Values}
 
 -- an axis carries one of the zone's directions
 unfoldable pub is_carried : ZoneLine → Bool
@@ -55,6 +56,6 @@ abbrev pub setting_in : JobView → ℕ → List (Option ℕ) → List Bool → 
 setting_in job = setting_with job.version job.channels job.programs job.axes job.zones
 
 -- what a block asks for: nothing, where it is none of coordination
-unfoldable pub request_in : SettingView → (ℕ → ℤ) → Statement → Result (Option Request) ℕ
-request_in setting parameters (Coord word operands) = request_of setting parameters word operands >>= λ request. Ok (Some request)
-request_in setting parameters other = Ok None
+unfoldable pub request_in : SettingView → Values → Statement → Result (Option Request) ℕ
+request_in setting values (Coord word operands) = request_of setting values word operands >>= λ request. Ok (Some request)
+request_in setting values other = Ok None

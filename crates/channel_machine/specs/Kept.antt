@@ -4,7 +4,7 @@ use Rattle.std.specs.Option.{option_to_list}
 use Rattle.axis_sets.specs.Positions.{position_of, stands}
 use Rattle.coordination_words.specs.declared.asked.Request.{Request}
 use Rattle.coordination_words.specs.declared.asked.Request.TheVariants.{Act, Switch}
-use Rattle.block_effects.specs.Words.{parameter_in}
+use Rattle.block_effects.specs.Words.{values_in}
 use Rattle.channel_machine.specs.CallLevels.{IsPlaced}
 use Rattle.channel_machine.specs.Coordination.{request_in, setting_in}
 use Rattle.frames.specs.Composition.{IsComposed}
@@ -147,7 +147,7 @@ pub record IsThere (programs : List (List ℕ × ProgramView)) (here : Place) (l
 abbrev pub AdvancesBy : JobView → StateView → ℕ → BlockView → Statement → Option Request → List Item → Option Step → List Item → StateView → Type 0
 AdvancesBy job old line block opener request before halt after new =
     (s : SurroundingsView) (c : Channel) (levels : Levels) → IsSettingIn job s old → Keeps s c old → old.levels ≡ Some levels → IsThere job.programs levels.here line block opener
-    → request_in (setting_in job old.channel old.slots old.axes) (parameter_in old.parameters) block.statement ≡ Ok request
+    → request_in (setting_in job old.channel old.slots old.axes) (values_in old.parameters) block.statement ≡ Ok request
     → Advances s c before halt after new
 
 -- the segment ends on this line, where the axes stand

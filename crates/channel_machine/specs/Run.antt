@@ -6,7 +6,7 @@ use Rattle.axis_sets.specs.Sets.{has}
 use Rattle.axis_sets.specs.Positions.{position_of, stands}
 use Rattle.sync_types.specs.Items.{end_in, is_motion}
 use Rattle.block_effects.specs.Effects.{Course, Goes, Ends, Calls, Effect, SituationView, group_words, effect_of}
-use Rattle.block_effects.specs.Words.{SetupView, parameter_in, zeros}
+use Rattle.block_effects.specs.Words.{SetupView, values_in, zeros}
 use Rattle.frames.specs.Maps.{Map}
 use Rattle.g_groups.specs.declared.GWord.{GWord}
 use Rattle.nc_blocks.specs.Statement.{BlockView, Statement}
@@ -202,7 +202,7 @@ setting_after setting past = setting_with setting.version setting.channels setti
 -- a block with its line, executed after these deeds: its arguments are read first, where it is one of coordination
 abbrev pub executed_block : SurroundingsView → List Deed → Place → ℕ × BlockView → Result Executed ℕ
 executed_block setting past place (line, block) =
-    request_in (setting_after setting past) (parameter_in (parameters_after past)) block.statement >>= λ request.
+    request_in (setting_after setting past) (values_in (parameters_after past)) block.statement >>= λ request.
     effect_of (setup_after setting past) (found_after setting past) line (opener_at setting place) block.statement >>= λ effect.
     Ok (record { line = line; block = block; request = request; effect = effect })
 

@@ -1,7 +1,7 @@
 //! What a block of coordination finds in the job and in its channel.
 
 ghost use Rattle.std.specs.Prelude.{◌≡◌, ◌≤◌, ◌<◌, None, length, slice_index_or};
-ghost use Rattle.block_effects.specs.Words.{parameter_in};
+ghost use Rattle.block_effects.specs.Words.{values_in};
 ghost use Rattle.channel_machine.specs.Coordination as model;
 ghost use Rattle.job_types.specs.Axes.{is_of};
 ghost use Rattle.nc_blocks.specs.Indices.{StatementFits};
@@ -161,7 +161,7 @@ pub(crate) fn request_in(
     requires programs { length job.now.programs ≤ PROGRAM_LIMIT }
     requires fits { StatementFits (statement_view stmt.now) }
     ensures { result ≡ model.request_in (model.setting_in job.now channel axes.now.slots axes.now.owned)
-        (parameter_in parameters.now) (statement_view stmt.now) }
+        (values_in parameters.now) (statement_view stmt.now) }
 {
     match stmt {
         Stmt::Coord(word, operands) => {

@@ -15,6 +15,7 @@ use Rattle.nc_expressions.specs.declared.trees.BinaryOp.TheVariants.{Add, Sub, M
 use Rattle.nc_expressions.specs.Symbols.{index_of}
 use Rattle.nc_expressions.specs.Tree.{Tree, Number, Parameter, Indexed, Unary, Binary}
 use Rattle.nc_expressions.specs.Value.{◌>>=◌, in_range_or_alarm, quotient_or_alarm, root_or_alarm, unary_value, binary_value, at_index, value_of}
+use Rattle.nc_expressions.specs.Values.{Values}
 use Rattle.fault_codes.specs.Codes.{IsAlarmCode, alarm_codes}
 use Rattle.sync_types.specs.declared.Action.TheVariants.{WaitM, SetM, ClearM, Init, Start, WaitE, Release, Get}
 use Rattle.coordination_words.specs.Operands.{or_alarm, operand_value, whole_below, mark_in, channel_in, if_passes, zone_in, state_of, state_in, axis_in, axis_found, slot_named, program_in, set_with, marks_in, channels_in, axes_in, first_in}
@@ -86,20 +87,20 @@ binary_listed Less x y = tt
 binary_listed GreaterEqual x y = tt
 binary_listed LessEqual x y = tt
 
-at_index_listed : (parameters : ℕ → ℤ) (o : Option ℕ) → IsListed (at_index parameters o)
+at_index_listed : (values : Values) (o : Option ℕ) → IsListed (at_index values o)
 unfolding IsAlarmCode alarm_codes
-at_index_listed parameters None = refl
-at_index_listed parameters (Some i) = tt
+at_index_listed values None = refl
+at_index_listed values (Some i) = tt
 
-value_listed : (parameters : ℕ → ℤ) (tree : Tree) → IsListed (value_of parameters tree)
-value_listed parameters (Number n) = tt
-value_listed parameters (Parameter i) = tt
-value_listed parameters (Indexed t) =
-    bind_listed (value_of parameters t) (λ z. at_index parameters (index_of z)) (value_listed parameters t) (λ z. at_index_listed parameters (index_of z))
-value_listed parameters (Unary op t) = bind_listed (value_of parameters t) (λ z. unary_value op z) (value_listed parameters t) (λ z. unary_listed op z)
-value_listed parameters (Binary op a b) =
-    bind_listed (value_of parameters a) (λ x. value_of parameters b >>= λ y. binary_value op x y) (value_listed parameters a)
-    (λ x. bind_listed (value_of parameters b) (λ y. binary_value op x y) (value_listed parameters b) (λ y. binary_listed op x y))
+value_listed : (values : Values) (tree : Tree) → IsListed (value_of values tree)
+value_listed values (Number n) = tt
+value_listed values (Parameter i) = tt
+value_listed values (Indexed t) =
+    bind_listed (value_of values t) (λ z. at_index values (index_of z)) (value_listed values t) (λ z. at_index_listed values (index_of z))
+value_listed values (Unary op t) = bind_listed (value_of values t) (λ z. unary_value op z) (value_listed values t) (λ z. unary_listed op z)
+value_listed values (Binary op a b) =
+    bind_listed (value_of values a) (λ x. value_of values b >>= λ y. binary_value op x y) (value_listed values a)
+    (λ x. bind_listed (value_of values b) (λ y. binary_value op x y) (value_listed values b) (λ y. binary_listed op x y))
 
 -- ---- arguments
 
@@ -107,10 +108,10 @@ or_listed : (code : ℕ) → IsAlarmCode code → (o : Option ℕ) → IsListed 
 or_listed code is None = is
 or_listed code is (Some n) = tt
 
-operand_listed : (parameters : ℕ → ℤ) (code : ℕ) → IsAlarmCode code → (operand : OperandView) → IsListed (operand_value parameters code operand)
-operand_listed parameters code is (Value tree) = value_listed parameters tree
-operand_listed parameters code is (Text bytes) = is
-operand_listed parameters code is (AxisName bytes) = is
+operand_listed : (values : Values) (code : ℕ) → IsAlarmCode code → (operand : OperandView) → IsListed (operand_value values code operand)
+operand_listed values code is (Value tree) = value_listed values tree
+operand_listed values code is (Text bytes) = is
+operand_listed values code is (AxisName bytes) = is
 
 no_mark : IsAlarmCode 25
 unfolding IsAlarmCode alarm_codes
@@ -144,9 +145,9 @@ split : IsAlarmCode 31
 unfolding IsAlarmCode alarm_codes
 split = refl
 
-mark_listed : (setting : SettingView) (parameters : ℕ → ℤ) (operand : OperandView) → IsListed (mark_in setting parameters operand)
-mark_listed setting parameters operand =
-    bind_listed (operand_value parameters 25 operand) (λ value. or_alarm 25 (whole_below setting.marks value)) (operand_listed parameters 25 no_mark operand)
+mark_listed : (setting : SettingView) (values : Values) (operand : OperandView) → IsListed (mark_in setting values operand)
+mark_listed setting values operand =
+    bind_listed (operand_value values 25 operand) (λ value. or_alarm 25 (whole_below setting.marks value)) (operand_listed values 25 no_mark operand)
     (λ value. or_listed 25 no_mark (whole_below setting.marks value))
 
 state_of_listed : (value : ℤ) → IsListed (state_of value)
@@ -158,8 +159,8 @@ state_of_listed value = by_tests (int_eq value (pos 0)) (int_eq value (pos 20000
     by_tests false true = tt
     by_tests false false = no_state
 
-state_listed : (parameters : ℕ → ℤ) (operand : OperandView) → IsListed (state_in parameters operand)
-state_listed parameters operand = bind_listed (operand_value parameters 30 operand) state_of (operand_listed parameters 30 no_state operand) state_of_listed
+state_listed : (values : Values) (operand : OperandView) → IsListed (state_in values operand)
+state_listed values operand = bind_listed (operand_value values 30 operand) state_of (operand_listed values 30 no_state operand) state_of_listed
 
 first_listed : {A : Type 0} (value_in : OperandView → Result A ℕ) → ((operand : OperandView) → IsListed (value_in operand)) → (code : ℕ) → IsAlarmCode code
     → (operands : List OperandView) → IsListed (first_in value_in code operands)
@@ -172,16 +173,16 @@ set_listed number_in each s [] = tt
 set_listed number_in each s (operand ∷ operands) =
     bind_listed (number_in operand) (λ n. set_with number_in (slice_set s n true) operands) (each operand) (λ n. set_listed number_in each (slice_set s n true) operands)
 
-module _ (setting : SettingView) (parameters : ℕ → ℤ) where
-  channel_listed : (operand : OperandView) → IsListed (channel_in setting parameters operand)
+module _ (setting : SettingView) (values : Values) where
+  channel_listed : (operand : OperandView) → IsListed (channel_in setting values operand)
   channel_listed operand =
-      bind_listed (operand_value parameters 24 operand) (λ value. or_alarm 24 (if_passes setting.has_channel (whole_below CHANNEL_PLACES value)))
-      (operand_listed parameters 24 no_channel operand) (λ value. or_listed 24 no_channel (if_passes setting.has_channel (whole_below CHANNEL_PLACES value)))
+      bind_listed (operand_value values 24 operand) (λ value. or_alarm 24 (if_passes setting.has_channel (whole_below CHANNEL_PLACES value)))
+      (operand_listed values 24 no_channel operand) (λ value. or_listed 24 no_channel (if_passes setting.has_channel (whole_below CHANNEL_PLACES value)))
 
-  zone_listed : (operand : OperandView) → IsListed (zone_in setting parameters operand)
+  zone_listed : (operand : OperandView) → IsListed (zone_in setting values operand)
   zone_listed operand =
-      bind_listed (operand_value parameters 29 operand) (λ value. or_alarm 29 (if_passes setting.holds (whole_below ZONE_PLACES value)))
-      (operand_listed parameters 29 no_zone operand) (λ value. or_listed 29 no_zone (if_passes setting.holds (whole_below ZONE_PLACES value)))
+      bind_listed (operand_value values 29 operand) (λ value. or_alarm 29 (if_passes setting.holds (whole_below ZONE_PLACES value)))
+      (operand_listed values 29 no_zone operand) (λ value. or_listed 29 no_zone (if_passes setting.holds (whole_below ZONE_PLACES value)))
 
   axis_listed : (operand : OperandView) → IsListed (axis_in setting operand)
   axis_listed (AxisName name) = or_listed 14 no_axis (axis_found setting name (slot_named name))
@@ -193,13 +194,13 @@ module _ (setting : SettingView) (parameters : ℕ → ℤ) where
   program_listed (Value tree) = no_program
   program_listed (AxisName name) = no_program
 
-  marks_listed : (operands : List OperandView) → IsListed (marks_in setting parameters operands)
+  marks_listed : (operands : List OperandView) → IsListed (marks_in setting values operands)
   unfolding marks_in
-  marks_listed operands = set_listed (mark_in setting parameters) (mark_listed setting parameters) (replicate MARK_LIMIT false) operands
+  marks_listed operands = set_listed (mark_in setting values) (mark_listed setting values) (replicate MARK_LIMIT false) operands
 
-  channels_listed : (operands : List OperandView) → IsListed (channels_in setting parameters operands)
+  channels_listed : (operands : List OperandView) → IsListed (channels_in setting values operands)
   unfolding channels_in
-  channels_listed operands = set_listed (channel_in setting parameters) channel_listed (replicate CHANNEL_PLACES false) operands
+  channels_listed operands = set_listed (channel_in setting values) channel_listed (replicate CHANNEL_PLACES false) operands
 
   axes_listed : (operands : List OperandView) → IsListed (axes_in setting operands)
   unfolding axes_in
@@ -207,25 +208,25 @@ module _ (setting : SettingView) (parameters : ℕ → ℤ) where
 
   -- ---- words
 
-  meeting_listed : (operands : List OperandView) → IsListed (meeting setting parameters operands)
+  meeting_listed : (operands : List OperandView) → IsListed (meeting setting values operands)
   meeting_listed operands =
-      bind_listed (first_in (mark_in setting parameters) 25 operands) (λ mark. channels_in setting parameters (drop 1 operands) >>= λ named. Ok (Act (WaitM mark (without_itself setting named))))
-      (first_listed (mark_in setting parameters) (mark_listed setting parameters) 25 no_mark operands)
-      (λ mark. bind_listed (channels_in setting parameters (drop 1 operands)) (λ named. Ok (Act (WaitM mark (without_itself setting named)))) (channels_listed (drop 1 operands)) (λ named. tt))
+      bind_listed (first_in (mark_in setting values) 25 operands) (λ mark. channels_in setting values (drop 1 operands) >>= λ named. Ok (Act (WaitM mark (without_itself setting named))))
+      (first_listed (mark_in setting values) (mark_listed setting values) 25 no_mark operands)
+      (λ mark. bind_listed (channels_in setting values (drop 1 operands)) (λ named. Ok (Act (WaitM mark (without_itself setting named)))) (channels_listed (drop 1 operands)) (λ named. tt))
 
-  selection_listed : (operands : List OperandView) → IsListed (selection setting parameters operands)
+  selection_listed : (operands : List OperandView) → IsListed (selection setting values operands)
   selection_listed operands =
-      bind_listed (first_in (channel_in setting parameters) 24 operands) (λ channel. first_in (program_in setting) 7 (drop 1 operands) >>= λ program. Ok (Act (Init channel program)))
-      (first_listed (channel_in setting parameters) channel_listed 24 no_channel operands)
+      bind_listed (first_in (channel_in setting values) 24 operands) (λ channel. first_in (program_in setting) 7 (drop 1 operands) >>= λ program. Ok (Act (Init channel program)))
+      (first_listed (channel_in setting values) channel_listed 24 no_channel operands)
       (λ channel. bind_listed (first_in (program_in setting) 7 (drop 1 operands)) (λ program. Ok (Act (Init channel program)))
       (first_listed (program_in setting) program_listed 7 no_program (drop 1 operands)) (λ program. tt))
 
-  switching_listed : (operands : List OperandView) → IsListed (switching setting parameters operands)
+  switching_listed : (operands : List OperandView) → IsListed (switching setting values operands)
   switching_listed operands =
-      bind_listed (first_in (zone_in setting parameters) 29 operands) (λ zone. first_in (state_in parameters) 30 (drop 1 operands) >>= λ on. Ok (Switch zone on))
-      (first_listed (zone_in setting parameters) zone_listed 29 no_zone operands)
-      (λ zone. bind_listed (first_in (state_in parameters) 30 (drop 1 operands)) (λ on. Ok (Switch zone on))
-      (first_listed (state_in parameters) (state_listed parameters) 30 no_state (drop 1 operands)) (λ on. tt))
+      bind_listed (first_in (zone_in setting values) 29 operands) (λ zone. first_in (state_in values) 30 (drop 1 operands) >>= λ on. Ok (Switch zone on))
+      (first_listed (zone_in setting values) zone_listed 29 no_zone operands)
+      (λ zone. bind_listed (first_in (state_in values) 30 (drop 1 operands)) (λ on. Ok (Switch zone on))
+      (first_listed (state_in values) (state_listed values) 30 no_state (drop 1 operands)) (λ on. tt))
 
   letting_go_listed : (axes : List Bool) → IsListed (letting_go setting axes)
   unfolding letting_go
@@ -244,15 +245,15 @@ module _ (setting : SettingView) (parameters : ℕ → ℤ) where
       by_test true = tt
       by_test false = split
 
-  pub request_listed : (which : CoordWord) (operands : List OperandView) → IsListed (request_of setting parameters which operands)
+  pub request_listed : (which : CoordWord) (operands : List OperandView) → IsListed (request_of setting values which operands)
   unfolding request_of
   request_listed word.WaitM operands = meeting_listed operands
   request_listed word.WaitMC operands = meeting_listed operands
-  request_listed word.SetM operands = bind_listed (marks_in setting parameters operands) (λ marks. Ok (Act (SetM marks))) (marks_listed operands) (λ marks. tt)
-  request_listed word.ClearM operands = bind_listed (marks_in setting parameters operands) (λ marks. Ok (Act (ClearM marks))) (marks_listed operands) (λ marks. tt)
+  request_listed word.SetM operands = bind_listed (marks_in setting values operands) (λ marks. Ok (Act (SetM marks))) (marks_listed operands) (λ marks. tt)
+  request_listed word.ClearM operands = bind_listed (marks_in setting values operands) (λ marks. Ok (Act (ClearM marks))) (marks_listed operands) (λ marks. tt)
   request_listed word.Init operands = selection_listed operands
-  request_listed word.Start operands = bind_listed (channels_in setting parameters operands) (λ named. Ok (Act (Start named))) (channels_listed operands) (λ named. tt)
-  request_listed word.WaitE operands = bind_listed (channels_in setting parameters operands) (λ named. Ok (Act (WaitE named))) (channels_listed operands) (λ named. tt)
+  request_listed word.Start operands = bind_listed (channels_in setting values operands) (λ named. Ok (Act (Start named))) (channels_listed operands) (λ named. tt)
+  request_listed word.WaitE operands = bind_listed (channels_in setting values operands) (λ named. Ok (Act (WaitE named))) (channels_listed operands) (λ named. tt)
   request_listed word.Release operands = bind_listed (axes_in setting operands) (letting_go setting) (axes_listed operands) letting_go_listed
   request_listed word.Get operands = bind_listed (axes_in setting operands) (taking setting) (axes_listed operands) taking_listed
   request_listed word.CProt operands = switching_listed operands

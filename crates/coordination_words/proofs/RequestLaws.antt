@@ -12,6 +12,7 @@ use Rattle.nc_blocks.specs.Statement.{OperandView, Value, Text, AxisName}
 use Rattle.nc_blocks.specs.declared.blocks.CoordWord.{CoordWord}
 use Rattle.nc_blocks.specs.declared.blocks.CoordWord.TheVariants as word
 use Rattle.nc_expressions.specs.Value.{◌>>=◌}
+use Rattle.nc_expressions.specs.Values.{Values}
 use Rattle.sync_types.specs.BoardAlarms.{is_whole}
 use Rattle.sync_types.specs.declared.Action.{Action}
 use Rattle.sync_types.specs.declared.Action.TheVariants.{WaitM, SetM, ClearM, Init, Start, WaitE, Release, Get}
@@ -77,9 +78,9 @@ below_limit limit (pos k) n is = by_tests (k % 1000000 == 0) (nat_lt k (limit * 
         never : (let o : Option ℕ = None in o) ≡ Some n → ⊥
         never h = cc
 
-mark_below : (setting : SettingView) (parameters : ℕ → ℤ) (operand : OperandView) (n : ℕ) → mark_in setting parameters operand ≡ Ok n → n < setting.marks
-mark_below setting parameters operand n is =
-    let value = from_bind (operand_value parameters 25 operand) (λ value. or_alarm 25 (whole_below setting.marks value)) n is in
+mark_below : (setting : SettingView) (values : Values) (operand : OperandView) (n : ℕ) → mark_in setting values operand ≡ Ok n → n < setting.marks
+mark_below setting values operand n is =
+    let value = from_bind (operand_value values 25 operand) (λ value. or_alarm 25 (whole_below setting.marks value)) n is in
     below_limit setting.marks value.0 n (found_is 25 (whole_below setting.marks value.0) n value.2)
 
 -- what the first argument stands for passes where each does
@@ -104,15 +105,15 @@ none_split (zone ∷ zones) =
     let apart : list_all (λ x. not (has [] x)) (members_of zone) ≡ true = list_all-members_of zone (λ x. not (has [] x)) (λ m member. refl) in
     rw (apart, or_true (list_all (has []) (members_of zone)), none_split zones) refl
 
-module _ (setting : SettingView) (parameters : ℕ → ℤ) where
-  channel_passes : (operand : OperandView) (n : ℕ) → channel_in setting parameters operand ≡ Ok n → setting.has_channel n ≡ true
+module _ (setting : SettingView) (values : Values) where
+  channel_passes : (operand : OperandView) (n : ℕ) → channel_in setting values operand ≡ Ok n → setting.has_channel n ≡ true
   channel_passes operand n is =
-      let value = from_bind (operand_value parameters 24 operand) (λ value. or_alarm 24 (if_passes setting.has_channel (whole_below CHANNEL_PLACES value))) n is in
+      let value = from_bind (operand_value values 24 operand) (λ value. or_alarm 24 (if_passes setting.has_channel (whole_below CHANNEL_PLACES value))) n is in
       passes_test setting.has_channel (whole_below CHANNEL_PLACES value.0) n (found_is 24 (if_passes setting.has_channel (whole_below CHANNEL_PLACES value.0)) n value.2)
 
-  zone_passes : (operand : OperandView) (n : ℕ) → zone_in setting parameters operand ≡ Ok n → setting.holds n ≡ true
+  zone_passes : (operand : OperandView) (n : ℕ) → zone_in setting values operand ≡ Ok n → setting.holds n ≡ true
   zone_passes operand n is =
-      let value = from_bind (operand_value parameters 29 operand) (λ value. or_alarm 29 (if_passes setting.holds (whole_below ZONE_PLACES value))) n is in
+      let value = from_bind (operand_value values 29 operand) (λ value. or_alarm 29 (if_passes setting.holds (whole_below ZONE_PLACES value))) n is in
       passes_test setting.holds (whole_below ZONE_PLACES value.0) n (found_is 29 (if_passes setting.holds (whole_below ZONE_PLACES value.0)) n value.2)
 
   axis_passes : (test : ℕ → Bool) → AllAxesPass setting test → (operand : OperandView) (n : ℕ) → axis_in setting operand ≡ Ok n → test n ≡ true
@@ -130,9 +131,9 @@ module _ (setting : SettingView) (parameters : ℕ → ℤ) where
       by_slot (Some slot) found = all.in_slots slot n found
       by_slot None found = all.with_names name n found
 
-  channels_pass : (operands : List OperandView) (named : List Bool) → channels_in setting parameters operands ≡ Ok named → (m : ℕ) → has named m ≡ true → setting.has_channel m ≡ true
+  channels_pass : (operands : List OperandView) (named : List Bool) → channels_in setting values operands ≡ Ok named → (m : ℕ) → has named m ≡ true → setting.has_channel m ≡ true
   unfolding channels_in
-  channels_pass operands named is = all_found_pass setting.has_channel (channel_in setting parameters) channel_passes CHANNEL_PLACES operands named is
+  channels_pass operands named is = all_found_pass setting.has_channel (channel_in setting values) channel_passes CHANNEL_PLACES operands named is
 
   axes_pass : (test : ℕ → Bool) → AllAxesPass setting test → (operands : List OperandView) (axes : List Bool) → axes_in setting operands ≡ Ok axes → (m : ℕ) → has axes m ≡ true → test m ≡ true
   unfolding axes_in
@@ -269,39 +270,39 @@ module _ (setting : SettingView) (parameters : ℕ → ℤ) where
   acts which other action request sound is = subst (λ (r : Request). Answers which r) (alike (Act action) request is) (sound, other)
 
   module _ (which : CoordWord) (other : which ≢ word.CProt) (operands : List OperandView) (request : Request) where
-    meeting_asks : meeting setting parameters operands ≡ Ok request → Answers which request
+    meeting_asks : meeting setting values operands ≡ Ok request → Answers which request
     meeting_asks is =
-        let mark = from_bind (first_in (mark_in setting parameters) 25 operands) (λ mark. channels_in setting parameters (drop 1 operands) >>= λ named. Ok (Act (WaitM mark (without_itself setting named)))) request is in
-        let named = from_bind (channels_in setting parameters (drop 1 operands)) (λ named. Ok (Act (WaitM mark.0 (without_itself setting named)))) request mark.2 in
+        let mark = from_bind (first_in (mark_in setting values) 25 operands) (λ mark. channels_in setting values (drop 1 operands) >>= λ named. Ok (Act (WaitM mark (without_itself setting named)))) request is in
+        let named = from_bind (channels_in setting values (drop 1 operands)) (λ named. Ok (Act (WaitM mark.0 (without_itself setting named)))) request mark.2 in
         acts which other (WaitM mark.0 (without_itself setting named.0)) request
-        (waiting_sound mark.0 named.0 (first_is (λ n. n < setting.marks) (mark_in setting parameters) (mark_below setting parameters) 25 operands mark.0 mark.1) (channels_pass (drop 1 operands) named.0 named.1)) named.2
+        (waiting_sound mark.0 named.0 (first_is (λ n. n < setting.marks) (mark_in setting values) (mark_below setting values) 25 operands mark.0 mark.1) (channels_pass (drop 1 operands) named.0 named.1)) named.2
 
-    setting_asks : (marks_in setting parameters operands >>= λ marks. Ok (Act (SetM marks))) ≡ Ok request → Answers which request
+    setting_asks : (marks_in setting values operands >>= λ marks. Ok (Act (SetM marks))) ≡ Ok request → Answers which request
     setting_asks is =
-        let marks = from_bind (marks_in setting parameters operands) (λ marks. Ok (Act (SetM marks))) request is in
+        let marks = from_bind (marks_in setting values operands) (λ marks. Ok (Act (SetM marks))) request is in
         acts which other (SetM marks.0) request (setting_sound marks.0) marks.2
 
-    clearing_asks : (marks_in setting parameters operands >>= λ marks. Ok (Act (ClearM marks))) ≡ Ok request → Answers which request
+    clearing_asks : (marks_in setting values operands >>= λ marks. Ok (Act (ClearM marks))) ≡ Ok request → Answers which request
     clearing_asks is =
-        let marks = from_bind (marks_in setting parameters operands) (λ marks. Ok (Act (ClearM marks))) request is in
+        let marks = from_bind (marks_in setting values operands) (λ marks. Ok (Act (ClearM marks))) request is in
         acts which other (ClearM marks.0) request (clearing_sound marks.0) marks.2
 
-    selection_asks : selection setting parameters operands ≡ Ok request → Answers which request
+    selection_asks : selection setting values operands ≡ Ok request → Answers which request
     selection_asks is =
-        let channel = from_bind (first_in (channel_in setting parameters) 24 operands) (λ channel. first_in (program_in setting) 7 (drop 1 operands) >>= λ program. Ok (Act (Init channel program))) request is in
+        let channel = from_bind (first_in (channel_in setting values) 24 operands) (λ channel. first_in (program_in setting) 7 (drop 1 operands) >>= λ program. Ok (Act (Init channel program))) request is in
         let program = from_bind (first_in (program_in setting) 7 (drop 1 operands)) (λ program. Ok (Act (Init channel.0 program))) request channel.2 in
         acts which other (Init channel.0 program.0) request
-        (selecting_sound channel.0 program.0 (first_is (λ n. setting.has_channel n ≡ true) (channel_in setting parameters) channel_passes 24 operands channel.0 channel.1)
+        (selecting_sound channel.0 program.0 (first_is (λ n. setting.has_channel n ≡ true) (channel_in setting values) channel_passes 24 operands channel.0 channel.1)
         (first_is (λ n. n < length setting.names) (program_in setting) program_within 7 (drop 1 operands) program.0 program.1)) program.2
 
-    starting_asks : (channels_in setting parameters operands >>= λ named. Ok (Act (Start named))) ≡ Ok request → Answers which request
+    starting_asks : (channels_in setting values operands >>= λ named. Ok (Act (Start named))) ≡ Ok request → Answers which request
     starting_asks is =
-        let named = from_bind (channels_in setting parameters operands) (λ named. Ok (Act (Start named))) request is in
+        let named = from_bind (channels_in setting values operands) (λ named. Ok (Act (Start named))) request is in
         acts which other (Start named.0) request (starting_sound named.0 (channels_pass operands named.0 named.1)) named.2
 
-    awaiting_asks : (channels_in setting parameters operands >>= λ named. Ok (Act (WaitE named))) ≡ Ok request → Answers which request
+    awaiting_asks : (channels_in setting values operands >>= λ named. Ok (Act (WaitE named))) ≡ Ok request → Answers which request
     awaiting_asks is =
-        let named = from_bind (channels_in setting parameters operands) (λ named. Ok (Act (WaitE named))) request is in
+        let named = from_bind (channels_in setting values operands) (λ named. Ok (Act (WaitE named))) request is in
         acts which other (WaitE named.0) request (awaiting_sound named.0 (channels_pass operands named.0 named.1)) named.2
 
     letting_go_asks : (axes : List Bool) → axes_in setting operands ≡ Ok axes → letting_go setting axes ≡ Ok request → Answers which request
@@ -322,14 +323,14 @@ module _ (setting : SettingView) (parameters : ℕ → ℤ) where
         by_test true whole e = acts which other (Get axes) request (taking_sound operands axes found whole) e
         by_test false whole e = no_request 31 request e
 
-  switching_asks : (operands : List OperandView) (request : Request) → switching setting parameters operands ≡ Ok request → Answers word.CProt request
+  switching_asks : (operands : List OperandView) (request : Request) → switching setting values operands ≡ Ok request → Answers word.CProt request
   switching_asks operands request is =
-      let zone = from_bind (first_in (zone_in setting parameters) 29 operands) (λ zone. first_in (state_in parameters) 30 (drop 1 operands) >>= λ on. Ok (Switch zone on)) request is in
-      let on = from_bind (first_in (state_in parameters) 30 (drop 1 operands)) (λ on. Ok (Switch zone.0 on)) request zone.2 in
+      let zone = from_bind (first_in (zone_in setting values) 29 operands) (λ zone. first_in (state_in values) 30 (drop 1 operands) >>= λ on. Ok (Switch zone on)) request is in
+      let on = from_bind (first_in (state_in values) 30 (drop 1 operands)) (λ on. Ok (Switch zone.0 on)) request zone.2 in
       subst (λ (r : Request). Answers word.CProt r) (alike (Switch zone.0 on.0) request on.2)
-      (first_is (λ n. setting.holds n ≡ true) (zone_in setting parameters) zone_passes 29 operands zone.0 zone.1, refl)
+      (first_is (λ n. setting.holds n ≡ true) (zone_in setting values) zone_passes 29 operands zone.0 zone.1, refl)
 
-  pub asks : (which : CoordWord) (operands : List OperandView) (request : Request) → request_of setting parameters which operands ≡ Ok request → Answers which request
+  pub asks : (which : CoordWord) (operands : List OperandView) (request : Request) → request_of setting values which operands ≡ Ok request → Answers which request
   unfolding request_of
   asks word.WaitM operands request is = meeting_asks word.WaitM (λ e. cc) operands request is
   asks word.WaitMC operands request is = meeting_asks word.WaitMC (λ e. cc) operands request is
@@ -347,17 +348,17 @@ module _ (setting : SettingView) (parameters : ℕ → ℤ) where
   asks word.CProt operands request is = switching_asks operands request is
 
   -- a set of marks that has none comes of no argument
-  pub no_mark_named : (operands : List OperandView) (marks : List Bool) → setting.marks ≤ MARK_LIMIT → request_of setting parameters word.ClearM operands ≡ Ok (Act (ClearM marks)) → IsEmpty marks → operands ≡ []
+  pub no_mark_named : (operands : List OperandView) (marks : List Bool) → setting.marks ≤ MARK_LIMIT → request_of setting values word.ClearM operands ≡ Ok (Act (ClearM marks)) → IsEmpty marks → operands ≡ []
   unfolding request_of marks_in
   no_mark_named [] marks few is none = refl
   no_mark_named (operand ∷ operands) marks few is none =
-      let found = from_bind (marks_in setting parameters (operand ∷ operands)) (λ set. Ok (Act (ClearM set))) (Act (ClearM marks)) is in
+      let found = from_bind (marks_in setting values (operand ∷ operands)) (λ set. Ok (Act (ClearM set))) (Act (ClearM marks)) is in
       let same : found.0 ≡ marks = alike_sets found.0 marks found.2 in
-      let first = from_bind (mark_in setting parameters operand) (λ n. set_with (mark_in setting parameters) (slice_set (replicate MARK_LIMIT false) n true) operands) found.0 found.1 in
-      let named : first.0 < setting.marks = mark_below setting parameters operand first.0 first.1 in
+      let first = from_bind (mark_in setting values operand) (λ n. set_with (mark_in setting values) (slice_set (replicate MARK_LIMIT false) n true) operands) found.0 found.1 in
+      let named : first.0 < setting.marks = mark_below setting values operand first.0 first.1 in
       let below : first.0 < MARK_LIMIT = omega (arith, named, few) in
       let stands : has found.0 first.0 ≡ true =
-      all_kept (mark_in setting parameters) (slice_set (replicate MARK_LIMIT false) first.0 true) operands found.0 first.2 first.0
+      all_kept (mark_in setting values) (slice_set (replicate MARK_LIMIT false) first.0 true) operands found.0 first.2 first.0
       (get_or-set_same (replicate MARK_LIMIT false) first.0 true false below) in
       absurd (never (sym (none first.0) ∙ ap (λ (s : List Bool). has s first.0) (sym same) ∙ stands))
     where

@@ -4,6 +4,7 @@ use Rattle.std.specs.Ordering.{int_eq}
 use Rattle.std.specs.Str.{bytes_eq}
 use Rattle.nc_blocks.specs.Statement.{OperandView, Value, Text, AxisName}
 use Rattle.nc_expressions.specs.Value.{◌>>=◌, value_of}
+use Rattle.nc_expressions.specs.Values.{Values}
 use Rattle.axis_sets.specs.declared.limits.TheConstants.{AXIS_LIMIT, CHANNEL_PLACES, MARK_LIMIT, ZONE_PLACES}
 use Rattle.fault_codes.specs.declared.alarms.TheConstants.{NO_SUCH_AXIS, NO_SUCH_CHANNEL, NO_SUCH_MARK, NO_SUCH_PROGRAM, ZONE_NOT_HELD, ZONE_STATE}
 use Rattle.coordination_words.specs.Programs.{program_named, program_text}
@@ -17,10 +18,10 @@ or_alarm alarm (Some number) = Ok number
 or_alarm alarm None = Err alarm
 
 -- the value of an argument, or its first alarm; one that is no expression has the alarm of its place
-abbrev pub operand_value : (ℕ → ℤ) → ℕ → OperandView → Result ℤ ℕ
-operand_value parameters alarm (Value tree) = value_of parameters tree
-operand_value parameters alarm (Text bytes) = Err alarm
-operand_value parameters alarm (AxisName bytes) = Err alarm
+abbrev pub operand_value : Values → ℕ → OperandView → Result ℤ ℕ
+operand_value values alarm (Value tree) = value_of values tree
+operand_value values alarm (Text bytes) = Err alarm
+operand_value values alarm (AxisName bytes) = Err alarm
 
 -- a whole number from 0 on, below a limit
 unfoldable pub whole_below : ℕ → ℤ → Option ℕ
@@ -28,8 +29,8 @@ whole_below limit (pos n) = if n % 1000000 == 0 && nat_lt n (limit * 1000000) th
 whole_below limit (negsuc n) = None
 
 -- the number of a mark
-abbrev pub mark_in : SettingView → (ℕ → ℤ) → OperandView → Result ℕ ℕ
-mark_in setting parameters operand = operand_value parameters NO_SUCH_MARK operand >>= λ value. or_alarm NO_SUCH_MARK (whole_below setting.marks value)
+abbrev pub mark_in : SettingView → Values → OperandView → Result ℕ ℕ
+mark_in setting values operand = operand_value values NO_SUCH_MARK operand >>= λ value. or_alarm NO_SUCH_MARK (whole_below setting.marks value)
 
 -- of numbers from 1 on, one that passes
 abbrev pub if_passes : (ℕ → Bool) → Option ℕ → Option ℕ
@@ -37,22 +38,22 @@ if_passes test (Some number) = if nat_le 1 number && test number then Some numbe
 if_passes test None = None
 
 -- the number of a channel of the job
-abbrev pub channel_in : SettingView → (ℕ → ℤ) → OperandView → Result ℕ ℕ
-channel_in setting parameters operand =
-    operand_value parameters NO_SUCH_CHANNEL operand >>= λ value. or_alarm NO_SUCH_CHANNEL (if_passes setting.has_channel (whole_below CHANNEL_PLACES value))
+abbrev pub channel_in : SettingView → Values → OperandView → Result ℕ ℕ
+channel_in setting values operand =
+    operand_value values NO_SUCH_CHANNEL operand >>= λ value. or_alarm NO_SUCH_CHANNEL (if_passes setting.has_channel (whole_below CHANNEL_PLACES value))
 
 -- the number of a zone that the channel holds
-abbrev pub zone_in : SettingView → (ℕ → ℤ) → OperandView → Result ℕ ℕ
-zone_in setting parameters operand =
-    operand_value parameters ZONE_NOT_HELD operand >>= λ value. or_alarm ZONE_NOT_HELD (if_passes setting.holds (whole_below ZONE_PLACES value))
+abbrev pub zone_in : SettingView → Values → OperandView → Result ℕ ℕ
+zone_in setting values operand =
+    operand_value values ZONE_NOT_HELD operand >>= λ value. or_alarm ZONE_NOT_HELD (if_passes setting.holds (whole_below ZONE_PLACES value))
 
 -- 0 is off, and 2 is on
 unfoldable pub state_of : ℤ → Result Bool ℕ
 state_of value = if int_eq value (pos 0) then Ok false else if int_eq value (pos 2000000) then Ok true else Err ZONE_STATE
 
 -- whether a zone is to be on
-abbrev pub state_in : (ℕ → ℤ) → OperandView → Result Bool ℕ
-state_in parameters operand = operand_value parameters ZONE_STATE operand >>= state_of
+abbrev pub state_in : Values → OperandView → Result Bool ℕ
+state_in values operand = operand_value values ZONE_STATE operand >>= state_of
 
 -- ---- axes and programs
 
@@ -89,12 +90,12 @@ set_with number_in set [] = Ok set
 set_with number_in set (operand ∷ operands) = number_in operand >>= λ number. set_with number_in (slice_set set number true) operands
 
 -- the marks of these arguments
-unfoldable pub marks_in : SettingView → (ℕ → ℤ) → List OperandView → Result (List Bool) ℕ
-marks_in setting parameters operands = set_with (mark_in setting parameters) (replicate MARK_LIMIT false) operands
+unfoldable pub marks_in : SettingView → Values → List OperandView → Result (List Bool) ℕ
+marks_in setting values operands = set_with (mark_in setting values) (replicate MARK_LIMIT false) operands
 
 -- their channels
-unfoldable pub channels_in : SettingView → (ℕ → ℤ) → List OperandView → Result (List Bool) ℕ
-channels_in setting parameters operands = set_with (channel_in setting parameters) (replicate CHANNEL_PLACES false) operands
+unfoldable pub channels_in : SettingView → Values → List OperandView → Result (List Bool) ℕ
+channels_in setting values operands = set_with (channel_in setting values) (replicate CHANNEL_PLACES false) operands
 
 -- their axes
 unfoldable pub axes_in : SettingView → List OperandView → Result (List Bool) ℕ

@@ -6,6 +6,7 @@ use Rattle.nc_blocks.specs.Statement.{OperandView}
 use Rattle.nc_blocks.specs.declared.blocks.CoordWord.{CoordWord}
 use Rattle.nc_blocks.specs.declared.blocks.CoordWord.TheVariants as word
 use Rattle.nc_expressions.specs.Value.{◌>>=◌}
+use Rattle.nc_expressions.specs.Values.{Values}
 use Rattle.fault_codes.specs.declared.alarms.TheConstants.{AXIS_NOT_OWNED, NO_SUCH_CHANNEL, NO_SUCH_MARK, NO_SUCH_PROGRAM, ZONE_NOT_HELD, ZONE_SPLIT, ZONE_STATE}
 use Rattle.sync_types.specs.BoardAlarms.{is_whole}
 use Rattle.sync_types.specs.declared.Action.TheVariants.{WaitM, SetM, ClearM, Init, Start, WaitE, Release, Get}
@@ -19,24 +20,24 @@ abbrev pub without_itself : SettingView → List Bool → List Bool
 without_itself setting named = slice_set named setting.channel false
 
 -- the mark comes before the channels
-abbrev pub meeting : SettingView → (ℕ → ℤ) → List OperandView → Result Request ℕ
-meeting setting parameters operands =
-    first_in (mark_in setting parameters) NO_SUCH_MARK operands >>= λ mark.
-    channels_in setting parameters (drop 1 operands) >>= λ named.
+abbrev pub meeting : SettingView → Values → List OperandView → Result Request ℕ
+meeting setting values operands =
+    first_in (mark_in setting values) NO_SUCH_MARK operands >>= λ mark.
+    channels_in setting values (drop 1 operands) >>= λ named.
     Ok (Act (WaitM mark (without_itself setting named)))
 
 -- the channel comes before its program; a third argument has no effect
-abbrev pub selection : SettingView → (ℕ → ℤ) → List OperandView → Result Request ℕ
-selection setting parameters operands =
-    first_in (channel_in setting parameters) NO_SUCH_CHANNEL operands >>= λ channel.
+abbrev pub selection : SettingView → Values → List OperandView → Result Request ℕ
+selection setting values operands =
+    first_in (channel_in setting values) NO_SUCH_CHANNEL operands >>= λ channel.
     first_in (program_in setting) NO_SUCH_PROGRAM (drop 1 operands) >>= λ program.
     Ok (Act (Init channel program))
 
 -- the zone and who holds it come before its state
-abbrev pub switching : SettingView → (ℕ → ℤ) → List OperandView → Result Request ℕ
-switching setting parameters operands =
-    first_in (zone_in setting parameters) ZONE_NOT_HELD operands >>= λ zone.
-    first_in (state_in parameters) ZONE_STATE (drop 1 operands) >>= λ on.
+abbrev pub switching : SettingView → Values → List OperandView → Result Request ℕ
+switching setting values operands =
+    first_in (zone_in setting values) ZONE_NOT_HELD operands >>= λ zone.
+    first_in (state_in values) ZONE_STATE (drop 1 operands) >>= λ on.
     Ok (Switch zone on)
 
 -- the channel owns each of these axes
@@ -59,14 +60,14 @@ unfoldable pub taking : SettingView → List Bool → Result Request ℕ
 taking setting axes = if leaves_zones_whole setting axes then Ok (Act (Get axes)) else Err ZONE_SPLIT
 
 -- what a coordination word asks for with these arguments, where the channel's parameters have these values; or the first alarm that fits
-unfoldable pub request_of : SettingView → (ℕ → ℤ) → CoordWord → List OperandView → Result Request ℕ
-request_of setting parameters word.WaitM operands = meeting setting parameters operands
-request_of setting parameters word.WaitMC operands = meeting setting parameters operands
-request_of setting parameters word.SetM operands = marks_in setting parameters operands >>= λ marks. Ok (Act (SetM marks))
-request_of setting parameters word.ClearM operands = marks_in setting parameters operands >>= λ marks. Ok (Act (ClearM marks))
-request_of setting parameters word.Init operands = selection setting parameters operands
-request_of setting parameters word.Start operands = channels_in setting parameters operands >>= λ named. Ok (Act (Start named))
-request_of setting parameters word.WaitE operands = channels_in setting parameters operands >>= λ named. Ok (Act (WaitE named))
-request_of setting parameters word.Release operands = axes_in setting operands >>= letting_go setting
-request_of setting parameters word.Get operands = axes_in setting operands >>= taking setting
-request_of setting parameters word.CProt operands = switching setting parameters operands
+unfoldable pub request_of : SettingView → Values → CoordWord → List OperandView → Result Request ℕ
+request_of setting values word.WaitM operands = meeting setting values operands
+request_of setting values word.WaitMC operands = meeting setting values operands
+request_of setting values word.SetM operands = marks_in setting values operands >>= λ marks. Ok (Act (SetM marks))
+request_of setting values word.ClearM operands = marks_in setting values operands >>= λ marks. Ok (Act (ClearM marks))
+request_of setting values word.Init operands = selection setting values operands
+request_of setting values word.Start operands = channels_in setting values operands >>= λ named. Ok (Act (Start named))
+request_of setting values word.WaitE operands = channels_in setting values operands >>= λ named. Ok (Act (WaitE named))
+request_of setting values word.Release operands = axes_in setting operands >>= letting_go setting
+request_of setting values word.Get operands = axes_in setting operands >>= taking setting
+request_of setting values word.CProt operands = switching setting values operands

@@ -24,7 +24,7 @@ use nc_expressions::{Names, eval};
 /// The value of an argument; this alarm where it is no expression.
 fn operand_value<N: Names>(operand: &Operand, parameters: &N, alarm: u16) -> Result<Num, u16>
     requires { OperandFits (operand_view operand.now) }
-    ensures { result ≡ model.operand_value (N.parameter parameters.now) alarm (operand_view operand.now) }
+    ensures { result ≡ model.operand_value (N.values parameters.now) alarm (operand_view operand.now) }
 {
     match operand {
         Operand::Value(value) => eval(value, parameters),
@@ -54,7 +54,7 @@ pub(crate) fn mark_in<S: Setting, N: Names>(
     parameters: &N,
 ) -> Result<u8, u16>
     requires { OperandFits (operand_view operand.now) }
-    ensures value { result ≡ model.mark_in (S.setting setting.now) (N.parameter parameters.now)
+    ensures value { result ≡ model.mark_in (S.setting setting.now) (N.values parameters.now)
         (operand_view operand.now) }
     ensures below { IfOk result (λ mark. mark < MARK_LIMIT) }
 {
@@ -94,7 +94,7 @@ pub(crate) fn channel_in<S: Setting, N: Names>(
 ) -> Result<ChannelId, u16>
     requires { OperandFits (operand_view operand.now) }
     ensures { result ≡ model.channel_in (S.setting setting.now)
-        (N.parameter parameters.now) (operand_view operand.now) }
+        (N.values parameters.now) (operand_view operand.now) }
 {
     let value = operand_value(operand, parameters, NO_SUCH_CHANNEL)?;
     match channel_of(setting, whole_below(value, CHANNEL_PLACES as u8)) {
@@ -131,7 +131,7 @@ pub(crate) fn zone_in<S: Setting, N: Names>(
     parameters: &N,
 ) -> Result<ZoneId, u16>
     requires { OperandFits (operand_view operand.now) }
-    ensures { result ≡ model.zone_in (S.setting setting.now) (N.parameter parameters.now) (operand_view operand.now) }
+    ensures { result ≡ model.zone_in (S.setting setting.now) (N.values parameters.now) (operand_view operand.now) }
 {
     let value = operand_value(operand, parameters, ZONE_NOT_HELD)?;
     match zone_of(setting, whole_below(value, ZONE_PLACES as u8)) {
@@ -155,7 +155,7 @@ fn state_of(value: Num) -> Result<bool, u16>
 /// The state of an argument.
 pub(crate) fn state_in<N: Names>(operand: &Operand, parameters: &N) -> Result<bool, u16>
     requires { OperandFits (operand_view operand.now) }
-    ensures { result ≡ model.state_in (N.parameter parameters.now) (operand_view operand.now) }
+    ensures { result ≡ model.state_in (N.values parameters.now) (operand_view operand.now) }
 {
     let value = operand_value(operand, parameters, ZONE_STATE)?;
     state_of(value)
@@ -247,7 +247,7 @@ pub(crate) fn marks_in<S: Setting, N: Names>(
     parameters: &N,
 ) -> Result<MarkSet, u16>
     requires { All OperandFits (map operand_view operands.now) }
-    ensures { result ≡ model.marks_in (S.setting setting.now) (N.parameter parameters.now)
+    ensures { result ≡ model.marks_in (S.setting setting.now) (N.values parameters.now)
         (map operand_view operands.now) }
 {
     let mut marks = MarkSet::empty();
@@ -266,7 +266,7 @@ pub(crate) fn channels_in<S: Setting, N: Names>(
     parameters: &N,
 ) -> Result<ChannelSet, u16>
     requires { All OperandFits (map operand_view operands.now) }
-    ensures { result ≡ model.channels_in (S.setting setting.now) (N.parameter parameters.now)
+    ensures { result ≡ model.channels_in (S.setting setting.now) (N.values parameters.now)
         (map operand_view operands.now) }
 {
     let mut channels = ChannelSet::empty();

@@ -38,7 +38,7 @@ fn meeting<S: Setting, N: Names>(
     parameters: &N,
 ) -> Result<Request, u16>
     requires { All OperandFits (map operand_view operands.now) }
-    ensures { result ≡ model.meeting (S.setting setting.now) (N.parameter parameters.now)
+    ensures { result ≡ model.meeting (S.setting setting.now) (N.values parameters.now)
         (map operand_view operands.now) }
 {
     let Some((first, others)) = operands.split_first() else {
@@ -56,7 +56,7 @@ fn selection<S: Setting, N: Names>(
     parameters: &N,
 ) -> Result<Request, u16>
     requires { All OperandFits (map operand_view operands.now) }
-    ensures { result ≡ model.selection (S.setting setting.now) (N.parameter parameters.now)
+    ensures { result ≡ model.selection (S.setting setting.now) (N.values parameters.now)
         (map operand_view operands.now) }
 {
     let Some((first, others)) = operands.split_first() else {
@@ -77,7 +77,7 @@ fn switching<S: Setting, N: Names>(
     parameters: &N,
 ) -> Result<Request, u16>
     requires { All OperandFits (map operand_view operands.now) }
-    ensures { result ≡ model.switching (S.setting setting.now) (N.parameter parameters.now)
+    ensures { result ≡ model.switching (S.setting setting.now) (N.values parameters.now)
         (map operand_view operands.now) }
 {
     let Some((first, others)) = operands.split_first() else {
@@ -161,7 +161,7 @@ pub fn request_of<S: Setting, N: Names>(
     parameters: &N,
 ) -> Result<Request, u16>
     requires { All OperandFits (map operand_view operands.now) }
-    ensures { result ≡ model.request_of (S.setting setting.now) (N.parameter parameters.now) word
+    ensures { result ≡ model.request_of (S.setting setting.now) (N.values parameters.now) word
         (map operand_view operands.now) }
 {
     match word {

@@ -1,6 +1,6 @@
 -- Meaning. What is told of a channel that an alarm stops.
 use Rattle.std.specs.Prelude.{◌≡◌, ℕ, List, Option, Some, None}
-use Rattle.block_effects.specs.Words.{parameter_in}
+use Rattle.block_effects.specs.Words.{values_in}
 use Rattle.explain_readings.specs.Readings.{readings_of}
 use Rattle.explain_readings.specs.declared.readings.Reading.{Reading}
 use Rattle.channel_machine.specs.CallLevels.{alarmed_levels}
@@ -16,7 +16,7 @@ use Rattle.explain_alarms.specs.declared.state.AlarmState.{AlarmState}
 
 -- the values that a block reads where this is kept of its channel
 abbrev pub HasReadings : JobView → ℕ × ℕ → StateView → List Reading → Type 0
-HasReadings job place kept readings = readings ≡ readings_of (parameter_in kept.parameters) (opener_at job.programs place) (said_at job.programs place)
+HasReadings job place kept readings = readings ≡ readings_of (values_in kept.parameters) (opener_at job.programs place) (said_at job.programs place)
 
 -- The state is that after the last step of the channel, which is the alarm: nothing of the alarmed block stands then. The calls are those of the levels on which that block stands.
 pub record IsStateOf (job : JobView) (run : RunView) (channel : ℕ) (place : ℕ × ℕ) (state : AlarmState) : Type 0 where

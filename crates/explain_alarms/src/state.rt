@@ -1,6 +1,6 @@
 //! What an alarm finds in a channel that it stops.
 ghost use Rattle.std.specs.Prelude.{◌≡◌, ◌<◌, length, IfOk};
-ghost use Rattle.block_effects.specs.Words.{parameter_in};
+ghost use Rattle.block_effects.specs.Words.{values_in};
 ghost use Rattle.explain_readings.specs.Readings.{readings_of};
 ghost use Rattle.channel_machine.specs.Levels.{lines_of};
 ghost use Rattle.channel_machine.specs.StartStates.{start_of};
@@ -45,7 +45,7 @@ fn flow_readings(
 ) -> Result<Vec<Reading>, NoMemory>
     requires here { pc < length flow.now }
     requires fits { FlowFits flow.now }
-    ensures { IfOk result (λ list. list.items ≡ readings_of (parameter_in local.now.parameters)
+    ensures { IfOk result (λ list. list.items ≡ readings_of (values_in local.now.parameters)
         (statement_at (opening pc (views flow.now)) (views flow.now)) (statement_at pc (views flow.now))) }
 {
     let opener = opener_of(flow, pc);

@@ -6,6 +6,7 @@ use Rattle.nc_blocks.specs.Statement.{OperandView, Value, Text, AxisName, WordVi
 use Rattle.nc_expressions.specs.Symbols.{index_of}
 use Rattle.nc_expressions.specs.Tree.{Tree, Number, Parameter, Indexed, Unary, Binary}
 use Rattle.nc_expressions.specs.Value.{value_of}
+use Rattle.nc_expressions.specs.Values.{Values}
 use Rattle.explain_assumptions.specs.Reads.{block_reads, end_reads, entry_reads, for_reads, is_reading, operand_reads, option_reads, read, read_at, read_index, reads, set, set_at, set_index, word_reads}
 use Rattle.explain_assumptions.specs.declared.remarks.Remark.{Remark}
 
@@ -26,7 +27,7 @@ module _ {X : Type 0} (p : X → Bool) where
   any-flat f g [] same = refl
   any-flat f g (y ∷ ys) same = any-append (f y) (flat_map f ys) ∙ ap₂ (λ (a b : Bool). a || b) (same y) (any-flat f g ys same)
 
-module _ (parameters : ℕ → ℤ) (line number : ℕ) where
+module _ (values : Values) (line number : ℕ) where
   abbrev Has : List Remark → Bool → Type 0
   Has remarks b = list_any (is_reading number) remarks ≡ b
 
@@ -56,37 +57,37 @@ module _ (parameters : ℕ → ℤ) (line number : ℕ) where
   at (Ok value) = at_index (index_of value)
   at (Err code) = refl
 
-  tree : (t : Tree) → Has (reads parameters line t) (by.reads parameters number t)
+  tree : (t : Tree) → Has (reads values line t) (by.reads values number t)
   tree (Number n) = refl
   tree (Parameter n) = one n
-  tree (Indexed t) = both (reads parameters line t) (read_at line (value_of parameters t)) (by.reads parameters number t) (by.is_at number (value_of parameters t)) (tree t) (at (value_of parameters t))
+  tree (Indexed t) = both (reads values line t) (read_at line (value_of values t)) (by.reads values number t) (by.is_at number (value_of values t)) (tree t) (at (value_of values t))
   tree (Unary op t) = tree t
-  tree (Binary op a b) = both (reads parameters line a) (reads parameters line b) (by.reads parameters number a) (by.reads parameters number b) (tree a) (tree b)
+  tree (Binary op a b) = both (reads values line a) (reads values line b) (by.reads values number a) (by.reads values number b) (tree a) (tree b)
 
-  option : (o : Option Tree) → Has (option_reads parameters line o) (by.option_reads parameters number o)
+  option : (o : Option Tree) → Has (option_reads values line o) (by.option_reads values number o)
   option None = refl
   option (Some t) = tree t
 
-  operand : (o : OperandView) → Has (operand_reads parameters line o) (by.operand_reads parameters number o)
+  operand : (o : OperandView) → Has (operand_reads values line o) (by.operand_reads values number o)
   operand (Value t) = tree t
   operand (Text bytes) = refl
   operand (AxisName bytes) = refl
 
-  word : (w : WordView) → Has (word_reads parameters line w) (by.word_reads parameters number w)
-  word (Assign n t) = first_of (reads parameters line t) (set line n ∷ []) (by.reads parameters number t) (tree t) refl
+  word : (w : WordView) → Has (word_reads values line w) (by.word_reads values number w)
+  word (Assign n t) = first_of (reads values line t) (set line n ∷ []) (by.reads values number t) (tree t) refl
   word (AssignAt i t) =
-      both (reads parameters line i) (reads parameters line t ++ set_at line (value_of parameters i)) (by.reads parameters number i) (by.reads parameters number t) (tree i)
-      (first_of (reads parameters line t) (set_at line (value_of parameters i)) (by.reads parameters number t) (tree t) (set_none (value_of parameters i)))
+      both (reads values line i) (reads values line t ++ set_at line (value_of values i)) (by.reads values number i) (by.reads values number t) (tree i)
+      (first_of (reads values line t) (set_at line (value_of values i)) (by.reads values number t) (tree t) (set_none (value_of values i)))
   word (G group code) = refl
   word (Axis bytes m t) = tree t
   word (Radius t) = tree t
-  word (Aux bytes i o) = both (option_reads parameters line i) (operand_reads parameters line o) (by.option_reads parameters number i) (by.operand_reads parameters number o) (option i) (operand o)
+  word (Aux bytes i o) = both (option_reads values line i) (operand_reads values line o) (by.option_reads values number i) (by.operand_reads values number o) (option i) (operand o)
   word End = refl
 
-  begin : (n : ℕ) (a b : Tree) → Has (for_reads parameters line n a b) (by.reads parameters number a || by.reads parameters number b)
-  begin n a b = both (reads parameters line a) (set line n ∷ [] ++ reads parameters line b) (by.reads parameters number a) (by.reads parameters number b) (tree a) (tree b)
+  begin : (n : ℕ) (a b : Tree) → Has (for_reads values line n a b) (by.reads values number a || by.reads values number b)
+  begin n a b = both (reads values line a) (set line n ∷ [] ++ reads values line b) (by.reads values number a) (by.reads values number b) (tree a) (tree b)
 
-  end : (opener : Statement) → Has (end_reads parameters line opener) (by.end_reads parameters number opener)
+  end : (opener : Statement) → Has (end_reads values line opener) (by.end_reads values number opener)
   end (For n a b) = ap (λ (c : Bool). (n == number) || c) (tree b)
   end Empty = refl
   end (WordBlock words) = refl
@@ -113,10 +114,10 @@ module _ (parameters : ℕ → ℤ) (line number : ℕ) where
   end (Coord w operands) = refl
   end Message = refl
 
-  pub told : (opener statement : Statement) → Has (block_reads parameters line opener statement) (by.block_reads parameters opener statement number)
+  pub told : (opener statement : Statement) → Has (block_reads values line opener statement) (by.block_reads values opener statement number)
   unfolding block_reads by.block_reads
   told opener Empty = refl
-  told opener (WordBlock words) = any-flat (is_reading number) (word_reads parameters line) (by.word_reads parameters number) words word
+  told opener (WordBlock words) = any-flat (is_reading number) (word_reads values line) (by.word_reads values number) words word
   told opener (Jump j) = refl
   told opener (IfJump t j) = tree t
   told opener (If t) = tree t
@@ -136,7 +137,7 @@ module _ (parameters : ℕ → ℤ) (line number : ℕ) where
   told opener (Call n k) = refl
   told opener Return = refl
   told opener (Proc n) = refl
-  told opener (Shape w axes) = any-flat (is_reading number) (entry_reads parameters line) (by.entry_reads parameters number) axes (λ e. tree e.1)
+  told opener (Shape w axes) = any-flat (is_reading number) (entry_reads values line) (by.entry_reads values number) axes (λ e. tree e.1)
   told opener (Turn b t) = option t
-  told opener (Coord w operands) = any-flat (is_reading number) (operand_reads parameters line) (by.operand_reads parameters number) operands operand
+  told opener (Coord w operands) = any-flat (is_reading number) (operand_reads values line) (by.operand_reads values number) operands operand
   told opener Message = refl

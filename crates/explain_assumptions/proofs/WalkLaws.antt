@@ -2,7 +2,7 @@
 use Rattle.std.proofs.Common.{◌≡◌, ◌∙◌, ℕ, ◌+◌, ◌<◌, ℤ, Bool, true, false, List, [], ◌∷◌, ◌++◌, append-nil, get_or, length, take, slice_get, slice_index, arith, is_some, IfSome, Option, None, Some, refl, sym, ap, ap₂, subst}
 use Rattle.std.specs.Option.{option_map_or}
 use Rattle.std.proofs.lemmas.List.{take_more, take_all}
-use Rattle.block_effects.specs.Words.{parameter_in}
+use Rattle.block_effects.specs.Words.{values_in}
 use Rattle.channel_machine.proofs.NextSegments.{first_segment, later_segment}
 use Rattle.channel_machine.proofs.Pasts.{blocks_of-did}
 use Rattle.channel_machine.proofs.PlacedChannels.{placed_grant, placed_start}
@@ -33,16 +33,16 @@ fits programs (Some levels) line block opener is = (is.opener_fits, is.fits)
 
 module _ (programs : List (List ℕ × ProgramView)) (kept : StateView) where
   pub coming_there : (line : ℕ) (block : BlockView) (opener : Statement) (items : List Remark) → Comes programs kept.levels line block opener
-      → items ≡ block_says (parameter_in kept.parameters) line opener block.statement
+      → items ≡ block_says (values_in kept.parameters) line opener block.statement
       → (levels : Levels) (other : ℕ) (found_block : BlockView) → kept.levels ≡ Some levels → slice_get (lines_of programs levels.here.program) levels.here.pc ≡ Some (other, found_block)
-      → (line ≡ other) × (items ≡ block_says (parameter_in kept.parameters) other (opener_in programs levels.here) found_block.statement)
+      → (line ≡ other) × (items ≡ block_says (values_in kept.parameters) other (opener_in programs levels.here) found_block.statement)
   coming_there line block opener items is says levels other found_block at found =
       let there : IsThere programs levels.here line block opener = subst (λ (o : Option Levels). Comes programs o line block opener) at is in
       let both : Some (line, block) ≡ Some (other, found_block) = sym there.found ∙ found in
       let same : (line, block) ≡ (other, found_block) = cc in (
         ap (λ (e : ℕ × BlockView). e.0) same,
-        says ∙ ap (λ (e : ℕ × BlockView). block_says (parameter_in kept.parameters) e.0 opener e.1.statement) same
-            ∙ ap (λ (o : Statement). block_says (parameter_in kept.parameters) other o found_block.statement) there.opens,
+        says ∙ ap (λ (e : ℕ × BlockView). block_says (values_in kept.parameters) e.0 opener e.1.statement) same
+            ∙ ap (λ (o : Statement). block_says (values_in kept.parameters) other o found_block.statement) there.opens,
       )
 
   pub coming_none : NoneComes programs kept.levels → (levels : Levels) (line : ℕ) (block : BlockView) → kept.levels ≡ Some levels
@@ -80,10 +80,10 @@ module _ (s : SurroundingsView) (c : Channel) (kept new : StateView) (remarks la
           let found : slice_get (lines_of programs there.levels.here.program) there.levels.here.pc ≡ Some (done.line, done.block) =
           ap (λ (ps : List (List ℕ × ProgramView)). slice_get (lines_of ps there.levels.here.program) there.levels.here.pc) (sym same) ∙ there.found in
           let said = comes there.levels done.line done.block (w.keeps.levels ∙ there.control) found in
-          let says : coming.remarks.items ≡ block_says (parameter_in (parameters_left blocks)) done.line (opener_on s (levels_left s blocks)) done.block.statement =
+          let says : coming.remarks.items ≡ block_says (values_in (parameters_left blocks)) done.line (opener_on s (levels_left s blocks)) done.block.statement =
           said.1
-          ∙ ap (λ (ps : List ℤ). block_says (parameter_in ps) done.line (opener_in programs there.levels.here) done.block.statement) w.keeps.parameters
-          ∙ ap (λ (o : Statement). block_says (parameter_in (parameters_left blocks)) done.line o done.block.statement) opener_is in
+          ∙ ap (λ (ps : List ℤ). block_says (values_in ps) done.line (opener_in programs there.levels.here) done.block.statement) w.keeps.parameters
+          ∙ ap (λ (o : Statement). block_says (values_in (parameters_left blocks)) done.line o done.block.statement) opener_is in
           let under : remark_if passing.moves coming.line (MovesUnder (slice_index new.modal 8)) ≡ remark_if (does_move done) done.line (MovesUnder (offset_word_left (blocks ++ done ∷ []))) =
           ap (λ (t : Bool). remark_if t coming.line (MovesUnder (slice_index new.modal 8))) moves
           ∙ ap (λ (n : ℕ). remark_if (does_move done) n (MovesUnder (slice_index new.modal 8))) said.0

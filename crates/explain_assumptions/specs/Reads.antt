@@ -5,6 +5,7 @@ use Rattle.nc_blocks.specs.Statement.{OperandView, Value, Text, AxisName, WordVi
 use Rattle.nc_expressions.specs.Symbols.{index_of}
 use Rattle.nc_expressions.specs.Tree.{Tree, Number, Parameter, Indexed, Unary, Binary}
 use Rattle.nc_expressions.specs.Value.{value_of}
+use Rattle.nc_expressions.specs.Values.{Values}
 use Rattle.explain_assumptions.specs.declared.remarks.Remark.{Remark}
 use Rattle.explain_assumptions.specs.declared.remarks.RemarkKind.{RemarkKind}
 use Rattle.explain_assumptions.specs.declared.remarks.RemarkKind.TheVariants.{Reads, Sets}
@@ -35,71 +36,71 @@ set_at line (Ok value) = set_index line (index_of value)
 set_at line (Err code) = []
 
 -- what an expression reads where the parameters have these values
-abbrev pub reads : (ℕ → ℤ) → ℕ → Tree → List Remark
-reads parameters line (Number n) = []
-reads parameters line (Parameter number) = read line number ∷ []
-reads parameters line (Indexed t) = reads parameters line t ++ read_at line (value_of parameters t)
-reads parameters line (Unary op t) = reads parameters line t
-reads parameters line (Binary op a b) = reads parameters line a ++ reads parameters line b
+abbrev pub reads : Values → ℕ → Tree → List Remark
+reads values line (Number n) = []
+reads values line (Parameter number) = read line number ∷ []
+reads values line (Indexed t) = reads values line t ++ read_at line (value_of values t)
+reads values line (Unary op t) = reads values line t
+reads values line (Binary op a b) = reads values line a ++ reads values line b
 
-abbrev pub option_reads : (ℕ → ℤ) → ℕ → Option Tree → List Remark
-option_reads parameters line None = []
-option_reads parameters line (Some t) = reads parameters line t
+abbrev pub option_reads : Values → ℕ → Option Tree → List Remark
+option_reads values line None = []
+option_reads values line (Some t) = reads values line t
 
-abbrev pub operand_reads : (ℕ → ℤ) → ℕ → OperandView → List Remark
-operand_reads parameters line (Value t) = reads parameters line t
-operand_reads parameters line (Text bytes) = []
-operand_reads parameters line (AxisName bytes) = []
+abbrev pub operand_reads : Values → ℕ → OperandView → List Remark
+operand_reads values line (Value t) = reads values line t
+operand_reads values line (Text bytes) = []
+operand_reads values line (AxisName bytes) = []
 
-abbrev pub entry_reads : (ℕ → ℤ) → ℕ → ℕ × Tree → List Remark
-entry_reads parameters line entry = reads parameters line entry.1
+abbrev pub entry_reads : Values → ℕ → ℕ × Tree → List Remark
+entry_reads values line entry = reads values line entry.1
 
 -- a word reads what its value names before it gives a parameter that value
-abbrev pub word_reads : (ℕ → ℤ) → ℕ → WordView → List Remark
-word_reads parameters line (Assign number t) = reads parameters line t ++ set line number ∷ []
-word_reads parameters line (AssignAt i t) = reads parameters line i ++ (reads parameters line t ++ set_at line (value_of parameters i))
-word_reads parameters line (G group code) = []
-word_reads parameters line (Axis bytes m t) = reads parameters line t
-word_reads parameters line (Radius t) = reads parameters line t
-word_reads parameters line (Aux bytes i o) = option_reads parameters line i ++ operand_reads parameters line o
-word_reads parameters line End = []
+abbrev pub word_reads : Values → ℕ → WordView → List Remark
+word_reads values line (Assign number t) = reads values line t ++ set line number ∷ []
+word_reads values line (AssignAt i t) = reads values line i ++ (reads values line t ++ set_at line (value_of values i))
+word_reads values line (G group code) = []
+word_reads values line (Axis bytes m t) = reads values line t
+word_reads values line (Radius t) = reads values line t
+word_reads values line (Aux bytes i o) = option_reads values line i ++ operand_reads values line o
+word_reads values line End = []
 
 -- FOR sets its parameter and then looks at its bound
-abbrev pub for_reads : (ℕ → ℤ) → ℕ → ℕ → Tree → Tree → List Remark
-for_reads parameters line number first bound = reads parameters line first ++ (set line number ∷ [] ++ reads parameters line bound)
+abbrev pub for_reads : Values → ℕ → ℕ → Tree → Tree → List Remark
+for_reads values line number first bound = reads values line first ++ (set line number ∷ [] ++ reads values line bound)
 
 -- ENDFOR counts the parameter of its FOR up, and looks at the bound
-abbrev pub end_reads : (ℕ → ℤ) → ℕ → Statement → List Remark
-end_reads parameters line (For number first bound) = read line number ∷ [] ++ reads parameters line bound
-end_reads parameters line other = []
+abbrev pub end_reads : Values → ℕ → Statement → List Remark
+end_reads values line (For number first bound) = read line number ∷ [] ++ reads values line bound
+end_reads values line other = []
 
 -- a block with this beginning of the structure round it
-unfoldable pub block_reads : (ℕ → ℤ) → ℕ → (opener statement : Statement) → List Remark
-block_reads parameters line opener Empty = []
-block_reads parameters line opener (WordBlock words) = flat_map (word_reads parameters line) words
-block_reads parameters line opener (Jump j) = []
-block_reads parameters line opener (IfJump t j) = reads parameters line t
-block_reads parameters line opener (If t) = reads parameters line t
-block_reads parameters line opener Else = []
-block_reads parameters line opener EndIf = []
-block_reads parameters line opener (While t) = reads parameters line t
-block_reads parameters line opener EndWhile = []
-block_reads parameters line opener Repeat = []
-block_reads parameters line opener (Until t) = reads parameters line t
-block_reads parameters line opener Loop = []
-block_reads parameters line opener EndLoop = []
-block_reads parameters line opener (For number first bound) = for_reads parameters line number first bound
-block_reads parameters line opener EndFor = end_reads parameters line opener
-block_reads parameters line opener (Case t pairs d) = reads parameters line t
-block_reads parameters line opener (RepeatFrom n t) = option_reads parameters line t
-block_reads parameters line opener (RepeatBlock n t) = option_reads parameters line t
-block_reads parameters line opener (Call n k) = []
-block_reads parameters line opener Return = []
-block_reads parameters line opener (Proc n) = []
-block_reads parameters line opener (Shape w axes) = flat_map (entry_reads parameters line) axes
-block_reads parameters line opener (Turn b t) = option_reads parameters line t
-block_reads parameters line opener (Coord w operands) = flat_map (operand_reads parameters line) operands
-block_reads parameters line opener Message = []
+unfoldable pub block_reads : Values → ℕ → (opener statement : Statement) → List Remark
+block_reads values line opener Empty = []
+block_reads values line opener (WordBlock words) = flat_map (word_reads values line) words
+block_reads values line opener (Jump j) = []
+block_reads values line opener (IfJump t j) = reads values line t
+block_reads values line opener (If t) = reads values line t
+block_reads values line opener Else = []
+block_reads values line opener EndIf = []
+block_reads values line opener (While t) = reads values line t
+block_reads values line opener EndWhile = []
+block_reads values line opener Repeat = []
+block_reads values line opener (Until t) = reads values line t
+block_reads values line opener Loop = []
+block_reads values line opener EndLoop = []
+block_reads values line opener (For number first bound) = for_reads values line number first bound
+block_reads values line opener EndFor = end_reads values line opener
+block_reads values line opener (Case t pairs d) = reads values line t
+block_reads values line opener (RepeatFrom n t) = option_reads values line t
+block_reads values line opener (RepeatBlock n t) = option_reads values line t
+block_reads values line opener (Call n k) = []
+block_reads values line opener Return = []
+block_reads values line opener (Proc n) = []
+block_reads values line opener (Shape w axes) = flat_map (entry_reads values line) axes
+block_reads values line opener (Turn b t) = option_reads values line t
+block_reads values line opener (Coord w operands) = flat_map (operand_reads values line) operands
+block_reads values line opener Message = []
 
 -- ---- what is read
 

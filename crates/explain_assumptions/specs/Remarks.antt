@@ -3,7 +3,7 @@ use Rattle.std.specs.Prelude.{ℕ, ℤ, ◌==◌, ◌&&◌, ◌||◌, Bool, true
 use Rattle.std.specs.List.{list_any}
 use Rattle.std.specs.Str.{bytes_eq}
 use Rattle.block_effects.specs.Effects.{group_words}
-use Rattle.block_effects.specs.Words.{parameter_in, zeros}
+use Rattle.block_effects.specs.Words.{values_in, zeros}
 use Rattle.block_motions.specs.Arcs.{is_absolute}
 use Rattle.channel_machine.specs.CallLevels.{led}
 use Rattle.channel_machine.specs.RunGrants.{grants_of}
@@ -21,6 +21,7 @@ use Rattle.explain_assumptions.specs.Reads.{block_reads}
 use Rattle.explain_assumptions.specs.declared.remarks.Remark.{Remark}
 use Rattle.explain_assumptions.specs.declared.remarks.RemarkKind.{RemarkKind}
 use Rattle.explain_assumptions.specs.declared.remarks.RemarkKind.TheVariants.{SaysDiameters, ProgramsX, MovesUnder, HasTool, HasToolOffset}
+use Rattle.nc_expressions.specs.Values.{Values}
 
 -- ---- words
 
@@ -71,8 +72,8 @@ statement_says line (WordBlock words) = words_say line words
 statement_says line other = []
 
 -- what a block on this line says where the parameters have these values, with this beginning of the structure round it
-abbrev pub block_says : (ℕ → ℤ) → ℕ → (opener statement : Statement) → List Remark
-block_says parameters line opener statement = statement_says line statement ++ block_reads parameters line opener statement
+abbrev pub block_says : Values → ℕ → (opener statement : Statement) → List Remark
+block_says values line opener statement = statement_says line statement ++ block_reads values line opener statement
 
 -- ---- a channel
 
@@ -94,7 +95,7 @@ offset_word_left blocks = modal_word (map (λ e. group_words e.block.statement) 
 -- what an executed block says and does after others
 unfoldable pub remarks_in : SurroundingsView → List Executed → Executed → List Remark
 remarks_in setting before done =
-    block_says (parameter_in (parameters_left before)) done.line (opener_on setting (levels_left setting before)) done.block.statement
+    block_says (values_in (parameters_left before)) done.line (opener_on setting (levels_left setting before)) done.block.statement
     ++ remark_if (does_move done) done.line (MovesUnder (offset_word_left (before ++ done ∷ [])))
 
 -- and one block after another

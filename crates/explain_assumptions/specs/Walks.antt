@@ -1,6 +1,6 @@
 -- Steps. A channel that executes its blocks again, with the remarks on them.
 use Rattle.std.specs.Prelude.{◌≡◌, ℕ, Bool, List, slice_get, Some}
-use Rattle.block_effects.specs.Words.{parameter_in}
+use Rattle.block_effects.specs.Words.{values_in}
 use Rattle.channel_machine.specs.CallLevels.{IsPlaced}
 use Rattle.channel_machine.specs.Kept.{Keeps, StateView}
 use Rattle.channel_machine.specs.Levels.{lines_of, program_blocks}
@@ -42,4 +42,4 @@ opener_in programs here = statement_at (opening here.pc (program_blocks programs
 abbrev pub IsComing : List (List ℕ × ProgramView) → StateView → Coming → Type 0
 IsComing programs kept coming =
     (levels : Levels) (line : ℕ) (block : BlockView) → kept.levels ≡ Some levels → slice_get (lines_of programs levels.here.program) levels.here.pc ≡ Some (line, block)
-    → (coming.line ≡ line) × (coming.remarks.items ≡ block_says (parameter_in kept.parameters) line (opener_in programs levels.here) block.statement)
+    → (coming.line ≡ line) × (coming.remarks.items ≡ block_says (values_in kept.parameters) line (opener_in programs levels.here) block.statement)

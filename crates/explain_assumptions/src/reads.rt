@@ -1,7 +1,7 @@
 //! Which parameters a block reads and sets.
 ghost use Rattle.std.specs.Prelude.{◌≡◌, ◌++◌, ◌∷◌, [], All, map, OnOk};
 ghost use Rattle.std.specs.List.{flat_map};
-ghost use Rattle.block_effects.specs.Words.{parameter_in};
+ghost use Rattle.block_effects.specs.Words.{values_in};
 ghost use Rattle.nc_blocks.specs.Indices.{EntryFits, OperandFits, OptionFits, StatementFits, WordFits};
 ghost use Rattle.nc_blocks.specs.Statement.{frame_entry, operand_view, statement_view, tree_option, word_view};
 ghost use Rattle.nc_expressions.specs.Tree.{tree_of, IndicesFit};
@@ -106,7 +106,7 @@ fn add_reads(
 ) -> Result<(), AllocError>
     requires { IndicesFit (tree_of expr.now) }
     ensures { OnOk result (remarks.new.items ≡ remarks.old.items
-        ++ model.reads (parameter_in parameters.now) line (tree_of expr.now)) }
+        ++ model.reads (values_in parameters.now) line (tree_of expr.now)) }
 {
     match expr {
         Expr::Number(_) => Ok(()),
@@ -132,7 +132,7 @@ fn add_option(
 ) -> Result<(), AllocError>
     requires { OptionFits (tree_option expr.now) }
     ensures { OnOk result (remarks.new.items ≡ remarks.old.items
-        ++ model.option_reads (parameter_in parameters.now) line (tree_option expr.now)) }
+        ++ model.option_reads (values_in parameters.now) line (tree_option expr.now)) }
 {
     match expr {
         Some(expr) => add_reads(expr, parameters, line, remarks),
@@ -149,7 +149,7 @@ fn add_operand(
 ) -> Result<(), AllocError>
     requires { OperandFits (operand_view operand.now) }
     ensures { OnOk result (remarks.new.items ≡ remarks.old.items
-        ++ model.operand_reads (parameter_in parameters.now) line (operand_view operand.now)) }
+        ++ model.operand_reads (values_in parameters.now) line (operand_view operand.now)) }
 {
     match operand {
         Operand::Value(expr) => add_reads(expr, parameters, line, remarks),
@@ -166,7 +166,7 @@ fn add_word(
 ) -> Result<(), AllocError>
     requires { WordFits (word_view word.now) }
     ensures { OnOk result (remarks.new.items ≡ remarks.old.items
-        ++ model.word_reads (parameter_in parameters.now) line (word_view word.now)) }
+        ++ model.word_reads (values_in parameters.now) line (word_view word.now)) }
 {
     match word {
         Word::Assign(number, value) => {
@@ -197,7 +197,7 @@ fn add_words(
 ) -> Result<(), AllocError>
     requires { All WordFits (map word_view words.now) }
     ensures { OnOk result (remarks.new.items ≡ remarks.old.items
-        ++ flat_map (model.word_reads (parameter_in parameters.now) line) (map word_view words.now)) }
+        ++ flat_map (model.word_reads (values_in parameters.now) line) (map word_view words.now)) }
 {
     for word in words {
         add_word(word, parameters, line, remarks)?;
@@ -214,7 +214,7 @@ fn add_operands(
 ) -> Result<(), AllocError>
     requires { All OperandFits (map operand_view operands.now) }
     ensures { OnOk result (remarks.new.items ≡ remarks.old.items
-        ++ flat_map (model.operand_reads (parameter_in parameters.now) line) (map operand_view operands.now)) }
+        ++ flat_map (model.operand_reads (values_in parameters.now) line) (map operand_view operands.now)) }
 {
     for operand in operands {
         add_operand(operand, parameters, line, remarks)?;
@@ -231,7 +231,7 @@ fn add_entries(
 ) -> Result<(), AllocError>
     requires { All EntryFits (map frame_entry entries.now) }
     ensures { OnOk result (remarks.new.items ≡ remarks.old.items
-        ++ flat_map (model.entry_reads (parameter_in parameters.now) line) (map frame_entry entries.now)) }
+        ++ flat_map (model.entry_reads (values_in parameters.now) line) (map frame_entry entries.now)) }
 {
     for entry in entries {
         add_reads(&entry.1, parameters, line, remarks)?;
@@ -248,7 +248,7 @@ fn add_end(
 ) -> Result<(), AllocError>
     requires { StatementFits (statement_view opener.now) }
     ensures { OnOk result (remarks.new.items ≡ remarks.old.items
-        ++ model.end_reads (parameter_in parameters.now) line (statement_view opener.now)) }
+        ++ model.end_reads (values_in parameters.now) line (statement_view opener.now)) }
 {
     match opener {
         Stmt::For(number, _, bound) => {
@@ -270,7 +270,7 @@ fn add_for(
     requires first { IndicesFit (tree_of first.now) }
     requires bound { IndicesFit (tree_of bound.now) }
     ensures { OnOk result (remarks.new.items ≡ remarks.old.items
-        ++ model.for_reads (parameter_in reader.now.parameters.now) reader.now.line number
+        ++ model.for_reads (values_in reader.now.parameters.now) reader.now.line number
         (tree_of first.now) (tree_of bound.now)) }
 {
     add_reads(first, reader.parameters, reader.line, remarks)?;
@@ -290,7 +290,7 @@ pub(crate) fn add_block(
     requires opener { StatementFits (statement_view opener.now) }
     requires fits { StatementFits (statement_view statement.now) }
     ensures { OnOk result (remarks.new.items ≡ remarks.old.items
-        ++ model.block_reads (parameter_in reader.now.parameters.now) reader.now.line
+        ++ model.block_reads (values_in reader.now.parameters.now) reader.now.line
         (statement_view opener.now) (statement_view statement.now)) }
 {
     let parameters = reader.parameters;

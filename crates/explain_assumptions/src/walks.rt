@@ -1,6 +1,6 @@
 //! A channel of a run that executes its blocks again, with the remarks on them.
 ghost use Rattle.std.specs.Prelude.{◌≡◌, ◌≤◌, ◌+◌, ◌∷◌, ◌++◌, [], false, length, IfOk, IfSome, OnOk};
-ghost use Rattle.block_effects.specs.Words.{parameter_in};
+ghost use Rattle.block_effects.specs.Words.{values_in};
 ghost use Rattle.channel_machine.specs.Kept.{IsSettingIn};
 ghost use Rattle.channel_machine.specs.Levels.{LevelsFit};
 ghost use Rattle.channel_machine.specs.Locals.{IsReady};
@@ -39,7 +39,7 @@ fn said_by(alloc: Global, next: &NextBlock, reader: &Reader) -> Result<Vec<Remar
     requires opener { StatementFits (statement_view next.now.opener.now) }
     requires fits { StatementFits (statement_view next.now.block.now.stmt) }
     ensures { IfOk result (λ list. list.items
-        ≡ model.block_says (parameter_in reader.now.parameters.now) reader.now.line
+        ≡ model.block_says (values_in reader.now.parameters.now) reader.now.line
         (statement_view next.now.opener.now) (statement_view next.now.block.now.stmt)) }
 {
     let mut remarks = Vec::new(alloc);

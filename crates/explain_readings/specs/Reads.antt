@@ -5,6 +5,7 @@ use Rattle.nc_blocks.specs.Statement.{OperandView, Value, Text, AxisName, WordVi
 use Rattle.nc_expressions.specs.Symbols.{index_of}
 use Rattle.nc_expressions.specs.Tree.{Tree, Number, Parameter, Indexed, Unary, Binary}
 use Rattle.nc_expressions.specs.Value.{value_of}
+use Rattle.nc_expressions.specs.Values.{Values}
 
 -- this is the parameter of a number
 abbrev pub is_number : ℕ → Option ℕ → Bool
@@ -17,64 +18,64 @@ is_at number (Ok z) = is_number number (index_of z)
 is_at number (Err alarm) = false
 
 -- an expression names a parameter, or its index has that value where the parameters have these values
-abbrev pub reads : (ℕ → ℤ) → ℕ → Tree → Bool
-reads parameters number (Number n) = false
-reads parameters number (Parameter index) = index == number
-reads parameters number (Indexed t) = reads parameters number t || is_at number (value_of parameters t)
-reads parameters number (Unary op t) = reads parameters number t
-reads parameters number (Binary op a b) = reads parameters number a || reads parameters number b
+abbrev pub reads : Values → ℕ → Tree → Bool
+reads values number (Number n) = false
+reads values number (Parameter index) = index == number
+reads values number (Indexed t) = reads values number t || is_at number (value_of values t)
+reads values number (Unary op t) = reads values number t
+reads values number (Binary op a b) = reads values number a || reads values number b
 
-abbrev pub option_reads : (ℕ → ℤ) → ℕ → Option Tree → Bool
-option_reads parameters number None = false
-option_reads parameters number (Some t) = reads parameters number t
+abbrev pub option_reads : Values → ℕ → Option Tree → Bool
+option_reads values number None = false
+option_reads values number (Some t) = reads values number t
 
-abbrev pub operand_reads : (ℕ → ℤ) → ℕ → OperandView → Bool
-operand_reads parameters number (Value t) = reads parameters number t
-operand_reads parameters number (Text bytes) = false
-operand_reads parameters number (AxisName bytes) = false
+abbrev pub operand_reads : Values → ℕ → OperandView → Bool
+operand_reads values number (Value t) = reads values number t
+operand_reads values number (Text bytes) = false
+operand_reads values number (AxisName bytes) = false
 
 -- of a parameter that gets a value the index is read
-abbrev pub word_reads : (ℕ → ℤ) → ℕ → WordView → Bool
-word_reads parameters number (Assign i t) = reads parameters number t
-word_reads parameters number (AssignAt i t) = reads parameters number i || reads parameters number t
-word_reads parameters number (G group code) = false
-word_reads parameters number (Axis bytes m t) = reads parameters number t
-word_reads parameters number (Radius t) = reads parameters number t
-word_reads parameters number (Aux bytes i o) = option_reads parameters number i || operand_reads parameters number o
-word_reads parameters number End = false
+abbrev pub word_reads : Values → ℕ → WordView → Bool
+word_reads values number (Assign i t) = reads values number t
+word_reads values number (AssignAt i t) = reads values number i || reads values number t
+word_reads values number (G group code) = false
+word_reads values number (Axis bytes m t) = reads values number t
+word_reads values number (Radius t) = reads values number t
+word_reads values number (Aux bytes i o) = option_reads values number i || operand_reads values number o
+word_reads values number End = false
 
-abbrev pub entry_reads : (ℕ → ℤ) → ℕ → ℕ × Tree → Bool
-entry_reads parameters number entry = reads parameters number entry.1
+abbrev pub entry_reads : Values → ℕ → ℕ × Tree → Bool
+entry_reads values number entry = reads values number entry.1
 
 -- the end of FOR counts its parameter up, and compares it with the bound
-abbrev pub end_reads : (ℕ → ℤ) → ℕ → Statement → Bool
-end_reads parameters number (For i a b) = (i == number) || reads parameters number b
-end_reads parameters number other = false
+abbrev pub end_reads : Values → ℕ → Statement → Bool
+end_reads values number (For i a b) = (i == number) || reads values number b
+end_reads values number other = false
 
 -- a block with this beginning of the structure round it
-unfoldable pub block_reads : (ℕ → ℤ) → (opener statement : Statement) → ℕ → Bool
-block_reads parameters opener Empty number = false
-block_reads parameters opener (WordBlock words) number = list_any (word_reads parameters number) words
-block_reads parameters opener (Jump j) number = false
-block_reads parameters opener (IfJump t j) number = reads parameters number t
-block_reads parameters opener (If t) number = reads parameters number t
-block_reads parameters opener Else number = false
-block_reads parameters opener EndIf number = false
-block_reads parameters opener (While t) number = reads parameters number t
-block_reads parameters opener EndWhile number = false
-block_reads parameters opener Repeat number = false
-block_reads parameters opener (Until t) number = reads parameters number t
-block_reads parameters opener Loop number = false
-block_reads parameters opener EndLoop number = false
-block_reads parameters opener (For i a b) number = reads parameters number a || reads parameters number b
-block_reads parameters opener EndFor number = end_reads parameters number opener
-block_reads parameters opener (Case t pairs d) number = reads parameters number t
-block_reads parameters opener (RepeatFrom n t) number = option_reads parameters number t
-block_reads parameters opener (RepeatBlock n t) number = option_reads parameters number t
-block_reads parameters opener (Call n k) number = false
-block_reads parameters opener Return number = false
-block_reads parameters opener (Proc n) number = false
-block_reads parameters opener (Shape w axes) number = list_any (entry_reads parameters number) axes
-block_reads parameters opener (Turn b t) number = option_reads parameters number t
-block_reads parameters opener (Coord w operands) number = list_any (operand_reads parameters number) operands
-block_reads parameters opener Message number = false
+unfoldable pub block_reads : Values → (opener statement : Statement) → ℕ → Bool
+block_reads values opener Empty number = false
+block_reads values opener (WordBlock words) number = list_any (word_reads values number) words
+block_reads values opener (Jump j) number = false
+block_reads values opener (IfJump t j) number = reads values number t
+block_reads values opener (If t) number = reads values number t
+block_reads values opener Else number = false
+block_reads values opener EndIf number = false
+block_reads values opener (While t) number = reads values number t
+block_reads values opener EndWhile number = false
+block_reads values opener Repeat number = false
+block_reads values opener (Until t) number = reads values number t
+block_reads values opener Loop number = false
+block_reads values opener EndLoop number = false
+block_reads values opener (For i a b) number = reads values number a || reads values number b
+block_reads values opener EndFor number = end_reads values number opener
+block_reads values opener (Case t pairs d) number = reads values number t
+block_reads values opener (RepeatFrom n t) number = option_reads values number t
+block_reads values opener (RepeatBlock n t) number = option_reads values number t
+block_reads values opener (Call n k) number = false
+block_reads values opener Return number = false
+block_reads values opener (Proc n) number = false
+block_reads values opener (Shape w axes) number = list_any (entry_reads values number) axes
+block_reads values opener (Turn b t) number = option_reads values number t
+block_reads values opener (Coord w operands) number = list_any (operand_reads values number) operands
+block_reads values opener Message number = false

@@ -27,7 +27,7 @@ fn reading_of<N: Names>(opener: &Stmt, statement: &Stmt, names: &N, number: u16)
     requires opener { StatementFits (statement_view opener.now) }
     requires fits { StatementFits (statement_view statement.now) }
     requires number { number < PARAMETER_LIMIT }
-    ensures { result ≡ model.reading_of (N.parameter names.now) (statement_view opener.now)
+    ensures { result ≡ model.reading_of (N.values names.now) (statement_view opener.now)
         (statement_view statement.now) number }
 {
     if block_reads(opener, statement, names, number) {
@@ -49,7 +49,7 @@ fn readings_below<N: Names>(
     requires opener { StatementFits (statement_view opener.now) }
     requires fits { StatementFits (statement_view statement.now) }
     requires limit { limit ≤ PARAMETER_LIMIT }
-    ensures { IfOk result (λ list. list.items ≡ model.readings_below (N.parameter names.now) (statement_view opener.now)
+    ensures { IfOk result (λ list. list.items ≡ model.readings_below (N.values names.now) (statement_view opener.now)
         (statement_view statement.now) limit) }
 {
     let mut list = Vec::new(alloc);
@@ -72,7 +72,7 @@ pub fn readings_in<N: Names>(
 ) -> Result<Vec<Reading>, NoMemory>
     requires opener { StatementFits (statement_view opener.now) }
     requires fits { StatementFits (statement_view statement.now) }
-    ensures { IfOk result (λ list. list.items ≡ model.readings_of (N.parameter names.now) (statement_view opener.now)
+    ensures { IfOk result (λ list. list.items ≡ model.readings_of (N.values names.now) (statement_view opener.now)
         (statement_view statement.now)) }
 {
     readings_below(alloc, opener, statement, names, PARAMETER_LIMIT)

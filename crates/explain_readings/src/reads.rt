@@ -34,7 +34,7 @@ fn is_at(index: Result<Num, u16>, number: u16) -> bool
 /// Whether an expression reads a parameter.
 fn reads<N: Names>(expr: &Expr, names: &N, number: u16) -> bool
     requires { IndicesFit (tree_of expr.now) }
-    ensures { result ≡ model.reads (N.parameter names.now) number (tree_of expr.now) }
+    ensures { result ≡ model.reads (N.values names.now) number (tree_of expr.now) }
 {
     match expr {
         Expr::Number(_) => false,
@@ -50,7 +50,7 @@ fn reads<N: Names>(expr: &Expr, names: &N, number: u16) -> bool
 /// Whether an expression that may be missing reads a parameter.
 fn option_reads<N: Names>(expr: &Option<Expr>, names: &N, number: u16) -> bool
     requires { OptionFits (tree_option expr.now) }
-    ensures { result ≡ model.option_reads (N.parameter names.now) number (tree_option expr.now) }
+    ensures { result ≡ model.option_reads (N.values names.now) number (tree_option expr.now) }
 {
     match expr {
         Some(expr) => reads(expr, names, number),
@@ -61,7 +61,7 @@ fn option_reads<N: Names>(expr: &Option<Expr>, names: &N, number: u16) -> bool
 /// Whether an argument reads a parameter.
 fn operand_reads<N: Names>(operand: &Operand, names: &N, number: u16) -> bool
     requires { OperandFits (operand_view operand.now) }
-    ensures { result ≡ model.operand_reads (N.parameter names.now) number (operand_view operand.now) }
+    ensures { result ≡ model.operand_reads (N.values names.now) number (operand_view operand.now) }
 {
     match operand {
         Operand::Value(expr) => reads(expr, names, number),
@@ -72,7 +72,7 @@ fn operand_reads<N: Names>(operand: &Operand, names: &N, number: u16) -> bool
 /// Whether a word reads a parameter.
 fn word_reads<N: Names>(word: &Word, names: &N, number: u16) -> bool
     requires { WordFits (word_view word.now) }
-    ensures { result ≡ model.word_reads (N.parameter names.now) number (word_view word.now) }
+    ensures { result ≡ model.word_reads (N.values names.now) number (word_view word.now) }
 {
     match word {
         Word::Assign(_, value) => reads(value, names, number),
@@ -91,7 +91,7 @@ fn word_reads<N: Names>(word: &Word, names: &N, number: u16) -> bool
 /// Whether any of these words reads a parameter.
 fn words_read<N: Names>(words: &[Word], names: &N, number: u16) -> bool
     requires { All WordFits (map word_view words.now) }
-    ensures { result ≡ list_any (model.word_reads (N.parameter names.now) number) (map word_view words.now) }
+    ensures { result ≡ list_any (model.word_reads (N.values names.now) number) (map word_view words.now) }
 {
     for word in words {
         if word_reads(word, names, number) {
@@ -104,7 +104,7 @@ fn words_read<N: Names>(words: &[Word], names: &N, number: u16) -> bool
 /// Whether any of these arguments reads a parameter.
 fn operands_read<N: Names>(operands: &[Operand], names: &N, number: u16) -> bool
     requires { All OperandFits (map operand_view operands.now) }
-    ensures { result ≡ list_any (model.operand_reads (N.parameter names.now) number) (map operand_view operands.now) }
+    ensures { result ≡ list_any (model.operand_reads (N.values names.now) number) (map operand_view operands.now) }
 {
     for operand in operands {
         if operand_reads(operand, names, number) {
@@ -117,7 +117,7 @@ fn operands_read<N: Names>(operands: &[Operand], names: &N, number: u16) -> bool
 /// Whether any of these words of a frame reads a parameter.
 fn entries_read<N: Names>(entries: &[(u8, Expr)], names: &N, number: u16) -> bool
     requires { All EntryFits (map frame_entry entries.now) }
-    ensures { result ≡ list_any (model.entry_reads (N.parameter names.now) number) (map frame_entry entries.now) }
+    ensures { result ≡ list_any (model.entry_reads (N.values names.now) number) (map frame_entry entries.now) }
 {
     for entry in entries {
         if reads(&entry.1, names, number) {
@@ -130,7 +130,7 @@ fn entries_read<N: Names>(entries: &[(u8, Expr)], names: &N, number: u16) -> boo
 /// Whether ENDFOR reads a parameter, where this block begins the structure round it.
 fn end_reads<N: Names>(opener: &Stmt, names: &N, number: u16) -> bool
     requires { StatementFits (statement_view opener.now) }
-    ensures { result ≡ model.end_reads (N.parameter names.now) number (statement_view opener.now) }
+    ensures { result ≡ model.end_reads (N.values names.now) number (statement_view opener.now) }
 {
     match opener {
         Stmt::For(index, _, bound) => *index == number || reads(bound, names, number),
@@ -145,7 +145,7 @@ fn end_reads<N: Names>(opener: &Stmt, names: &N, number: u16) -> bool
 pub fn block_reads<N: Names>(opener: &Stmt, statement: &Stmt, names: &N, number: u16) -> bool
     requires opener { StatementFits (statement_view opener.now) }
     requires fits { StatementFits (statement_view statement.now) }
-    ensures { result ≡ model.block_reads (N.parameter names.now) (statement_view opener.now)
+    ensures { result ≡ model.block_reads (N.values names.now) (statement_view opener.now)
         (statement_view statement.now) number }
 {
     match statement {

@@ -16,8 +16,10 @@ struct Few;
 impl Names for Few {
     ghost use Rattle.std.specs.Prelude.{ℕ, pos, ◌==◌, if◌then◌else◌};
 
-    ghost parameter = { λ _ i. if i == 1 then pos 5000000 else if i == 2 then pos 3000000 else if i == 3
-        then pos 2000000 else pos 0 };
+    ghost values = { λ _. record {
+      parameter = λ i. if i == 1 then pos 5000000 else if i == 2 then pos 3000000 else if i == 3
+          then pos 2000000 else pos 0;
+    } };
 
     fn parameter(&self, index: u16) -> Num {
         let millionths = if index == 1 {

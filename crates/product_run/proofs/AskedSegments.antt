@@ -4,7 +4,7 @@ use Rattle.std.specs.Option.{option_to_list}
 use Rattle.block_effects.proofs.EffectSteps.{left}
 use Rattle.block_effects.specs.Effects.{Effect, Turning, SituationView, word_in, item_on, words_moved, words_run, words_effect, group_words, frame_effect, turned_only, control_effect, effect_of}
 use Rattle.block_effects.specs.Shapes.{plane_of, shaped_by, turned_by}
-use Rattle.block_effects.specs.Words.{SetupView, first_progress, parameter_in, words_done}
+use Rattle.block_effects.specs.Words.{SetupView, first_progress, values_in, words_done}
 use Rattle.channel_machine.proofs.Pasts.{grant-did}
 use Rattle.channel_machine.specs.Coordination.{request_in, setting_with}
 use Rattle.channel_machine.specs.Levels.{levels_after}
@@ -22,6 +22,7 @@ use Rattle.g_groups.specs.declared.GWord.{GWord}
 use Rattle.nc_blocks.specs.Statement.{BlockView, OperandView, WordView, Statement, WordBlock, Shape, Turn, Coord}
 use Rattle.nc_blocks.specs.declared.blocks.CoordWord.{CoordWord}
 use Rattle.nc_expressions.specs.Value.{◌>>=◌}
+use Rattle.nc_expressions.specs.Values.{Values}
 use Rattle.nc_subprograms.specs.declared.Place.{Place}
 use Rattle.path_geometry.specs.declared.motion.Motion.{Motion}
 use Rattle.sync_types.specs.declared.Action.{Action}
@@ -71,8 +72,8 @@ module _ (equipment : SetupView) (found : SituationView) (line : ℕ) where
   effect_moves : (opener statement : Statement) → OnlyMoves (effect_of equipment found line opener statement)
   unfolding effect_of
   effect_moves opener (WordBlock words) = words_move (group_words (WordBlock words)) words
-  effect_moves opener (Shape word values) = framed_still (shaped_by found.parameters found.chain word values)
-  effect_moves opener (Turn additive angle) = framed_still (turned_by found.parameters found.chain (plane_of (word_in found [] 6)) additive angle)
+  effect_moves opener (Shape word values) = framed_still (shaped_by (values_in found.parameters) found.chain word values)
+  effect_moves opener (Turn additive angle) = framed_still (turned_by (values_in found.parameters) found.chain (plane_of (word_in found [] 6)) additive angle)
   effect_moves opener statement = turned_still (control_effect equipment.names found.parameters opener statement)
 
 -- ---- what blocks ask
@@ -111,16 +112,16 @@ module _ (setting : SettingView) where
   AsksForAll (Ok request) = AsksFor request
   AsksForAll (Err code) = Unit {0}
 
-  some_asked : (parameters : ℕ → ℤ) (w : CoordWord) (operands : List OperandView) (r : Result Request ℕ) → request_of setting parameters w operands ≡ r
+  some_asked : (values : Values) (w : CoordWord) (operands : List OperandView) (r : Result Request ℕ) → request_of setting values w operands ≡ r
       → AsksForAll (r >>= λ request. Ok (Some request))
-  some_asked parameters w operands (Ok (Act action)) is = of_job action (asks setting parameters w operands (Act action) is).0
-  some_asked parameters w operands (Ok (Switch zone on)) is = (asks setting parameters w operands (Switch zone on) is).0
-  some_asked parameters w operands (Err code) is = tt
+  some_asked values w operands (Ok (Act action)) is = of_job action (asks setting values w operands (Act action) is).0
+  some_asked values w operands (Ok (Switch zone on)) is = (asks setting values w operands (Switch zone on) is).0
+  some_asked values w operands (Err code) is = tt
 
-  statement_asked : (parameters : ℕ → ℤ) (statement : Statement) → AsksForAll (request_in setting parameters statement)
+  statement_asked : (values : Values) (statement : Statement) → AsksForAll (request_in setting values statement)
   unfolding request_in
-  statement_asked parameters (Coord w operands) = some_asked parameters w operands (request_of setting parameters w operands) refl
-  statement_asked parameters other = tt
+  statement_asked values (Coord w operands) = some_asked values w operands (request_of setting values w operands) refl
+  statement_asked values other = tt
 
   -- ---- one block
 
@@ -160,9 +161,9 @@ module _ (s : SurroundingsView) (axes : List Bool) where
 
   pub was_done : (past : List Deed) (place : Place) (b : ℕ × BlockView) (done : Executed) → (grant_after s past).axes ≡ axes → executed_block s past place b ≡ Ok done → IsDone found_with done
   was_done past place (line, block) done own is =
-      by_request (request_in (setting_after s past) (parameter_in (parameters_after past)) block.statement)
-      (subst (λ (owned : List Bool). AsksForAll found_with (request_in (setting_with s.version s.channels s.programs s.axes s.zones s.channel s.slots owned) (parameter_in (parameters_after past)) block.statement)) (sym own)
-      (statement_asked found_with (parameter_in (parameters_after past)) block.statement)) is
+      by_request (request_in (setting_after s past) (values_in (parameters_after past)) block.statement)
+      (subst (λ (owned : List Bool). AsksForAll found_with (request_in (setting_with s.version s.channels s.programs s.axes s.zones s.channel s.slots owned) (values_in (parameters_after past)) block.statement)) (sym own)
+      (statement_asked found_with (values_in (parameters_after past)) block.statement)) is
     where
       made : Option Request → Effect → Executed
       made request effect = record { line = line; block = block; request = request; effect = effect }

@@ -10,7 +10,7 @@ use Rattle.coordination_words.proofs.operands.channels_in.Goals as goal
 pub loop-operand-init : goal.loop-operand-init
 loop-operand-init g c = (
   c.empty-channels.ensures.size,
-  ap (λ (s : List Bool). model.set_with (model.channel_in (g.S.Setting.setting c.args.setting.now) (g.N.Names.parameter c.args.parameters.now)) s (map operand_view c.args.operands.now))
+  ap (λ (s : List Bool). model.set_with (model.channel_in (g.S.Setting.setting c.args.setting.now) (g.N.Names.values c.args.parameters.now)) s (map operand_view c.args.operands.now))
       (empty_is c.empty-channels.result CHANNEL_PLACES c.empty-channels.ensures.members c.empty-channels.ensures.size),
 )
 

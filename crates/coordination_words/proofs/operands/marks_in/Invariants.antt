@@ -7,5 +7,5 @@ use Rattle.coordination_words.proofs.operands.marks_in.Given as goal
 abbrev pub invariant-loop-operand : goal.invariant-loop-operand
 invariant-loop-operand g l =
     (length l.marks ≡ MARK_LIMIT)
-    × (model.set_with (model.mark_in (g.S.Setting.setting l.setting) (g.N.Names.parameter l.parameters)) l.marks (map operand_view (drop l.operand-index l.operands))
-    ≡ model.set_with (model.mark_in (g.S.Setting.setting l.setting) (g.N.Names.parameter l.parameters)) (replicate MARK_LIMIT false) (map operand_view l.operands))
+    × (model.set_with (model.mark_in (g.S.Setting.setting l.setting) (g.N.Names.values l.parameters)) l.marks (map operand_view (drop l.operand-index l.operands))
+    ≡ model.set_with (model.mark_in (g.S.Setting.setting l.setting) (g.N.Names.values l.parameters)) (replicate MARK_LIMIT false) (map operand_view l.operands))

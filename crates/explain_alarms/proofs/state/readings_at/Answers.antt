@@ -1,5 +1,5 @@
 use Rattle.std.proofs.Common.{◌∙◌, List, length, ap, sym, arith}
-use Rattle.block_effects.specs.Words.{parameter_in}
+use Rattle.block_effects.specs.Words.{values_in}
 use Rattle.explain_readings.specs.Readings.{readings_of}
 use Rattle.channel_machine.proofs.Fitting.{statement_fits}
 use Rattle.channel_machine.proofs.Going.{views_are}
@@ -24,5 +24,5 @@ pub returns : goal.returns
 returns c =
     if_ok c.flow_readings.result (λ list is.
     is
-    ∙ ap (λ (bs : List BlockView). readings_of (parameter_in c.args.local.now.parameters) (statement_at (opening c.args.pc bs) bs) (statement_at c.args.pc bs))
+    ∙ ap (λ (bs : List BlockView). readings_of (values_in c.args.local.now.parameters) (statement_at (opening c.args.pc bs) bs) (statement_at c.args.pc bs))
     (sym (views_are c.args.job.now.programs c.args.number c.in-Some.flow.now c.in-Some.ensures))) c.flow_readings.ensures

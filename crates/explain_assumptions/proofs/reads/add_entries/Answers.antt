@@ -1,4 +1,4 @@
-use Rattle.block_effects.specs.Words.{parameter_in}
+use Rattle.block_effects.specs.Words.{values_in}
 use Rattle.explain_readings.proofs.Steps.{holds_at}
 use Rattle.nc_blocks.specs.Indices.{EntryFits}
 use Rattle.nc_blocks.specs.Statement.{frame_entry}
@@ -11,5 +11,5 @@ add_reads-requires c = holds_at EntryFits frame_entry c.args.entries.now c.loop-
 
 pub loop-entry-preserved : goal.loop-entry-preserved
 loop-entry-preserved c =
-    viewed_more (entry_reads (parameter_in c.args.parameters.now) c.args.line) frame_entry c.args.entries.now c.loop-entry.entry-index c.entry-item.result c.args.remarks.now.items c.loop-entry.remarks.items c.add_reads.new.remarks.items
+    viewed_more (entry_reads (values_in c.args.parameters.now) c.args.line) frame_entry c.args.entries.now c.loop-entry.entry-index c.entry-item.result c.args.remarks.now.items c.loop-entry.remarks.items c.add_reads.new.remarks.items
     c.loop-entry-test.true c.entry-item.is c.loop-entry.invariant c.in_ok-add_reads.ensures

@@ -1,4 +1,4 @@
-use Rattle.block_effects.specs.Words.{parameter_in}
+use Rattle.block_effects.specs.Words.{values_in}
 use Rattle.explain_readings.proofs.Steps.{holds_at}
 use Rattle.nc_blocks.specs.Indices.{OperandFits}
 use Rattle.nc_blocks.specs.Statement.{operand_view}
@@ -11,5 +11,5 @@ add_operand-requires c = holds_at OperandFits operand_view c.args.operands.now c
 
 pub loop-operand-preserved : goal.loop-operand-preserved
 loop-operand-preserved c =
-    viewed_more (operand_reads (parameter_in c.args.parameters.now) c.args.line) operand_view c.args.operands.now c.loop-operand.operand-index c.operand-item.result c.args.remarks.now.items c.loop-operand.remarks.items c.add_operand.new.remarks.items
+    viewed_more (operand_reads (values_in c.args.parameters.now) c.args.line) operand_view c.args.operands.now c.loop-operand.operand-index c.operand-item.result c.args.remarks.now.items c.loop-operand.remarks.items c.add_operand.new.remarks.items
     c.loop-operand-test.true c.operand-item.is c.loop-operand.invariant c.in_ok-add_operand.ensures

@@ -1,4 +1,4 @@
-use Rattle.block_effects.specs.Words.{parameter_in}
+use Rattle.block_effects.specs.Words.{values_in}
 use Rattle.explain_readings.proofs.Steps.{holds_at}
 use Rattle.nc_blocks.specs.Indices.{WordFits}
 use Rattle.nc_blocks.specs.Statement.{word_view}
@@ -11,5 +11,5 @@ add_word-requires c = holds_at WordFits word_view c.args.words.now c.loop-word.w
 
 pub loop-word-preserved : goal.loop-word-preserved
 loop-word-preserved c =
-    viewed_more (word_reads (parameter_in c.args.parameters.now) c.args.line) word_view c.args.words.now c.loop-word.word-index c.word-item.result c.args.remarks.now.items c.loop-word.remarks.items c.add_word.new.remarks.items
+    viewed_more (word_reads (values_in c.args.parameters.now) c.args.line) word_view c.args.words.now c.loop-word.word-index c.word-item.result c.args.remarks.now.items c.loop-word.remarks.items c.add_word.new.remarks.items
     c.loop-word-test.true c.word-item.is c.loop-word.invariant c.in_ok-add_word.ensures

@@ -1,5 +1,5 @@
 use Rattle.std.proofs.Common.{◌∙◌, ℤ, List, ap}
-use Rattle.block_effects.specs.Words.{parameter_in}
+use Rattle.block_effects.specs.Words.{values_in}
 use Rattle.nc_blocks.specs.Statement.{statement_view, view_of}
 use Rattle.explain_assumptions.proofs.WalkLaws.{coming_none, coming_there, fits}
 use Rattle.explain_assumptions.specs.Remarks.{block_says}
@@ -19,7 +19,7 @@ pub returns-in_ok-remarks-in-Some : goal.returns-in_ok-remarks-in-Some
 returns-in_ok-remarks-in-Some c levels line block at found =
     let next = c.in-Some.next in
     coming_there c.args.job.now.programs c.args.local.now next.line (view_of next.block.now) (statement_view next.opener.now) c.in_ok-remarks-in-Some.remarks.items c.in-Some.ensures
-    (c.in_ok-remarks-in-Some.ensures ∙ ap (λ (ps : List ℤ). block_says (parameter_in ps) next.line (statement_view next.opener.now) (statement_view next.block.now.stmt)) c.parameters.ensures)
+    (c.in_ok-remarks-in-Some.ensures ∙ ap (λ (ps : List ℤ). block_says (values_in ps) next.line (statement_view next.opener.now) (statement_view next.block.now.stmt)) c.parameters.ensures)
     levels line block at found
 
 pub returns-in-None : goal.returns-in-None

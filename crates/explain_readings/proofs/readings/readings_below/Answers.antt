@@ -9,9 +9,9 @@ pub loop-number-preserved : goal.loop-number-preserved
 loop-number-preserved g c =
     elim c.match-reading_of.branch [
       | in-Some+in_ok-push w ↦ rw (w.list-is, w.in_ok-push.ensures.items)
-          (filter_map-range_some (reading_of (g.N.Names.parameter c.args.names.now) (statement_view c.args.opener.now) (statement_view c.args.statement.now)) c.loop-number.number _ _ c.loop-number.invariant
+          (filter_map-range_some (reading_of (g.N.Names.values c.args.names.now) (statement_view c.args.opener.now) (statement_view c.args.statement.now)) c.loop-number.number _ _ c.loop-number.invariant
           (sym c.reading_of.ensures ∙ w.in-Some.is))
       | in_default w ↦ rw w.list-is
-          (filter_map-range_none (reading_of (g.N.Names.parameter c.args.names.now) (statement_view c.args.opener.now) (statement_view c.args.statement.now)) c.loop-number.number _ c.loop-number.invariant
+          (filter_map-range_none (reading_of (g.N.Names.values c.args.names.now) (statement_view c.args.opener.now) (statement_view c.args.statement.now)) c.loop-number.number _ c.loop-number.invariant
           (sym c.reading_of.ensures ∙ w.in_default.is))
     ]

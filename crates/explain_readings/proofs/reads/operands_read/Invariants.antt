@@ -6,4 +6,4 @@ use Rattle.explain_readings.proofs.reads.operands_read.Given as goal
 
 abbrev pub invariant-loop-operand : goal.invariant-loop-operand
 invariant-loop-operand g l =
-    list_any (operand_reads (g.N.Names.parameter l.names) l.fn.number) (map operand_view (drop l.operand-index l.operands)) ≡ list_any (operand_reads (g.N.Names.parameter l.names) l.fn.number) (map operand_view l.operands)
+    list_any (operand_reads (g.N.Names.values l.names) l.fn.number) (map operand_view (drop l.operand-index l.operands)) ≡ list_any (operand_reads (g.N.Names.values l.names) l.fn.number) (map operand_view l.operands)
