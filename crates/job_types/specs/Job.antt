@@ -1,5 +1,5 @@
 -- Meaning. What a contract sees of a job and of a program.
-use Rattle.std.specs.Prelude.{ℕ, ℤ, Bool, List}
+use Rattle.std.specs.Prelude.{ℕ, ℤ, Bool, List, []}
 use Rattle.nc_blocks.specs.declared.blocks.Block.{Block}
 use Rattle.nc_blocks.specs.Statement.{BlockView, view_of}
 use Rattle.job_types.specs.declared.job.ChannelLine.{ChannelLine}
@@ -11,6 +11,10 @@ use Rattle.job_types.specs.declared.job.ZoneLine.{ZoneLine}
 -- a block and its line
 abbrev pub block_entry : ℕ × Block → ℕ × BlockView
 block_entry entry = (entry.0, view_of entry.1)
+
+-- the names of the variables that the blocks of a program define. No block defines one yet
+abbrev pub names_of : List (ℕ × BlockView) → List (List ℕ)
+names_of blocks = []
 
 -- a program: the line of its header, and its blocks, each with its line
 pub record ProgramView : Type 0 where
