@@ -33,7 +33,7 @@ use Rattle.nc_blocks.specs.Statement.{OperandView, Value, Text, AxisName, WordVi
 use Rattle.path_geometry.specs.declared.motion.Motion.{Motion}
 use Rattle.block_effects.specs.Words.{SetupView, Progress, parameter_in, values_in, index_in, first_progress, assignment, given_at, increment, with_parameters, with_targets, programmed_value, slot_named, is_in_slot, programmed_once, slot_programmed, named_programmed, programmed_by, centre_named, with_centre_word, with_radius, with_arc_words, word_progress, option_read, operand_read, aux_read, word_done, words_done}
 use Rattle.block_effects.specs.Shapes.{values_done, no_values, unless_alarmed, chain_with, shape_chain, turn_chain, plane_of, shaped_by, turned_by}
-use Rattle.block_effects.specs.Effects.{SituationView, word_in, in_force, is_arc, has_stray_words, stands_still, motion_made, moved_or_still, words_moved, words_run, words_effect, group_words, frame_effect, Course, leaving, bound_course, bound_turning, for_continued, times_in, times_of, repetition_course, library_number, number_of, call_course, control_effect, effect_of}
+use Rattle.block_effects.specs.Effects.{SituationView, word_in, in_force, is_arc, has_stray_words, stands_still, motion_made, moved_or_still, words_moved, words_run, words_effect, group_words, frame_effect, Course, turning_with, bound_course, bound_turning, for_continued, times_in, times_of, repetition_course, library_number, number_of, call_course, control_effect, effect_of}
 use Rattle.block_effects.proofs.EffectSteps.{left}
 
 -- the codes that a run can end with
@@ -388,7 +388,7 @@ after_value : {A : Type 0} (values : Values) (tree : Tree) (f : ℤ → Result A
 after_value values tree f each = bind_listed (value_of values tree) f (value_listed values tree) each
 
 -- a course, where the parameters are left as they are
-left_listed : (parameters : List ℤ) (course : Result Course ℕ) → IsListed course → IsListed (leaving parameters course)
+left_listed : (parameters : List ℤ) (course : Result Course ℕ) → IsListed course → IsListed (turning_with parameters course)
 left_listed parameters course listed = bind_listed course _ listed (λ found. tt)
 
 bounded_listed : (parameters : List ℤ) (index : ℕ) (bound : Tree) → IsListed (bound_turning parameters index bound)
@@ -418,10 +418,10 @@ called_listed (Some number) = tt
 
 module _ (names : List (List ℕ)) (parameters : List ℤ) (opener : Statement) where
   -- a value that decides on the course
-  deciding_listed : (tree : Tree) (f : ℤ → Result Course ℕ) → ((z : ℤ) → IsListed (f z)) → IsListed (leaving parameters (value_of (values_in parameters) tree >>= f))
+  deciding_listed : (tree : Tree) (f : ℤ → Result Course ℕ) → ((z : ℤ) → IsListed (f z)) → IsListed (turning_with parameters (value_of (values_in parameters) tree >>= f))
   deciding_listed tree f each = left_listed parameters (value_of (values_in parameters) tree >>= f) (after_value (values_in parameters) tree f each)
 
-  repeating_listed : (times : Option Tree) → IsListed (leaving parameters (repetition_course (values_in parameters) times))
+  repeating_listed : (times : Option Tree) → IsListed (turning_with parameters (repetition_course (values_in parameters) times))
   repeating_listed times = left_listed parameters (repetition_course (values_in parameters) times) (repeated_listed (values_in parameters) times)
 
   control_listed : (statement : Statement) → IsListed (control_effect names parameters opener statement)

@@ -10,7 +10,7 @@ use Rattle.std.specs.Prelude.{not, int_lt}
 use Rattle.nc_blocks.specs.Statement.{WordView, Statement, WordBlock, Shape, Turn, Jump, IfJump, If, While, Until, For, EndFor, Case, RepeatFrom, RepeatBlock, Call}
 use Rattle.block_effects.specs.Words.{SetupView, first_progress, increment, assignment, parameter_in, values_in, words_done}
 use Rattle.block_effects.specs.Shapes.{plane_of, shaped_by, turned_by}
-use Rattle.block_effects.specs.Effects.{Course, Goes, Effect, Turning, SituationView, IsStill, searches, word_in, words_moved, words_run, words_effect, course_of, group_words, frame_effect, turned_only, leaving, jump_course, choice, condition_course, bound_turning, for_continued, repetition_course, call_course, control_effect, effect_of}
+use Rattle.block_effects.specs.Effects.{Course, Goes, Effect, Turning, SituationView, IsStill, searches, word_in, words_moved, words_run, words_effect, course_of, group_words, frame_effect, turned_only, turning_with, jump_course, choice, condition_course, bound_turning, for_continued, repetition_course, call_course, control_effect, effect_of}
 use Rattle.block_effects.proofs.EffectSteps.{left}
 
 module _ (parameters : List ℤ) where
@@ -24,14 +24,14 @@ module _ (parameters : List ℤ) where
   keeps_bind (Err code) f each = tt
 
   -- a course, where the parameters are left as they are
-  left_keeps : (course : Result Course ℕ) → Keeps (leaving parameters course)
+  left_keeps : (course : Result Course ℕ) → Keeps (turning_with parameters course)
   left_keeps (Ok found) = λ is. refl
   left_keeps (Err code) = tt
 
   bounded_keeps : (ps : List ℤ) (index : ℕ) (bound : Tree) → Keeps (bound_turning ps index bound)
   bounded_keeps ps index bound = by_value (value_of (values_in ps) bound)
     where
-      by_value : (r : Result ℤ ℕ) → Keeps (leaving ps (r >>= λ value. Ok (Goes (outcome.Truth (not (int_lt value (parameter_in ps index)))))))
+      by_value : (r : Result ℤ ℕ) → Keeps (turning_with ps (r >>= λ value. Ok (Goes (outcome.Truth (not (int_lt value (parameter_in ps index)))))))
       by_value (Ok value) = λ is. absurd cc
       by_value (Err code) = tt
 

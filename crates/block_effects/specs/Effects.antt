@@ -51,8 +51,8 @@ abbrev pub course_by : List ℤ → OutcomeView → Turning
 course_by parameters outcome = record { parameters = parameters; course = Goes outcome }
 
 -- a block that gives no parameter a value leaves these parameters and takes this course
-abbrev pub leaving : List ℤ → Result Course ℕ → Result Turning ℕ
-leaving parameters found = found >>= λ course. Ok (record { parameters = parameters; course = course })
+abbrev pub turning_with : List ℤ → Result Course ℕ → Result Turning ℕ
+turning_with parameters found = found >>= λ course. Ok (record { parameters = parameters; course = course })
 
 -- ---- jumps
 
@@ -97,7 +97,7 @@ bound_course values index bound =
 
 -- the same where these parameters are left
 abbrev pub bound_turning : List ℤ → ℕ → Tree → Result Turning ℕ
-bound_turning parameters index bound = leaving parameters (bound_course (values_in parameters) index bound)
+bound_turning parameters index bound = turning_with parameters (bound_course (values_in parameters) index bound)
 
 -- FOR sets its parameter and then looks at its bound
 abbrev pub for_begun : List ℤ → ℕ → Tree → Tree → Result Turning ℕ
@@ -147,16 +147,16 @@ call_course names name passes = library_number (number_of names name) >>= λ num
 -- what a block does that moves no axis and shapes no frame, or its first alarm
 unfoldable pub control_effect : List (List ℕ) → List ℤ → Statement → Statement → Result Turning ℕ
 control_effect names parameters opener (Jump j) = Ok (course_by parameters (jump_outcome j))
-control_effect names parameters opener (IfJump tree j) = leaving parameters (jump_course (values_in parameters) tree j)
-control_effect names parameters opener (If tree) = leaving parameters (condition_course (values_in parameters) tree)
-control_effect names parameters opener (While tree) = leaving parameters (condition_course (values_in parameters) tree)
-control_effect names parameters opener (Until tree) = leaving parameters (condition_course (values_in parameters) tree)
+control_effect names parameters opener (IfJump tree j) = turning_with parameters (jump_course (values_in parameters) tree j)
+control_effect names parameters opener (If tree) = turning_with parameters (condition_course (values_in parameters) tree)
+control_effect names parameters opener (While tree) = turning_with parameters (condition_course (values_in parameters) tree)
+control_effect names parameters opener (Until tree) = turning_with parameters (condition_course (values_in parameters) tree)
 control_effect names parameters opener (For index first bound) = for_begun parameters index first bound
 control_effect names parameters opener EndFor = for_continued parameters opener
-control_effect names parameters opener (Case tree pairs default) = leaving parameters (choice (values_in parameters) tree pairs default)
-control_effect names parameters opener (RepeatFrom name times) = leaving parameters (repetition_course (values_in parameters) times)
-control_effect names parameters opener (RepeatBlock name times) = leaving parameters (repetition_course (values_in parameters) times)
-control_effect names parameters opener (Call name passes) = leaving parameters (call_course names name passes)
+control_effect names parameters opener (Case tree pairs default) = turning_with parameters (choice (values_in parameters) tree pairs default)
+control_effect names parameters opener (RepeatFrom name times) = turning_with parameters (repetition_course (values_in parameters) times)
+control_effect names parameters opener (RepeatBlock name times) = turning_with parameters (repetition_course (values_in parameters) times)
+control_effect names parameters opener (Call name passes) = turning_with parameters (call_course names name passes)
 control_effect names parameters opener Return = Ok (record { parameters = parameters; course = Ends })
 control_effect names parameters opener other = Ok (course_by parameters outcome.Plain)
 

@@ -1,7 +1,7 @@
 //! Jumps, conditions, counted loops, repetitions and calls.
 
 ghost use Rattle.std.specs.Prelude.{◌≡◌, ◌≤◌, List, ℤ, OnErr, option_copied};
-ghost use Rattle.nc_blocks.specs.Indices.{StatementFits, OptionFits};
+ghost use Rattle.nc_blocks.specs.Indices.{FitsValues, OptionFits};
 ghost use Rattle.nc_blocks.specs.Statement.{statement_view, tree_option};
 ghost use Rattle.nc_control_flow.specs.Moves.{outcome_view};
 ghost use Rattle.nc_expressions.specs.Tree.{tree_of, IndicesFit};
@@ -180,7 +180,7 @@ pub(crate) fn continue_for<'a>(
     parameters: &mut Parameters,
     opener: &Stmt,
 ) -> Result<Course<'a>, u16>
-    requires { StatementFits (statement_view opener.now) }
+    requires { FitsValues (words.values_in parameters.old) (statement_view opener.now) }
     ensures turns { Turns (model.for_continued parameters.old (statement_view opener.now)) result parameters.new }
     ensures unchanged { OnErr result (parameters.new ≡ parameters.old) }
 {

@@ -9,11 +9,11 @@ ghost use Rattle.frames.specs.Composition.{IsComposed};
 ghost use Rattle.frames.specs.Maps.{Map};
 ghost use Rattle.g_groups.specs.Modal.{IsAfter, has_group_twice};
 ghost use Rattle.g_groups.specs.declared.GWord.{GWord};
-ghost use Rattle.nc_blocks.specs.Indices.{StatementFits, WordFits};
+ghost use Rattle.nc_blocks.specs.Indices.{FitsValues, WordFits};
 ghost use Rattle.nc_blocks.specs.Statement.{statement_view, word_view};
 ghost use Rattle.block_effects.specs.Effects as model;
 ghost use Rattle.block_effects.specs.Courses.{answer_with, equipment_of, course_view, ActsAll, DoesAsDefined, ModalIsAfter, RunsAsDefined, RunsUnder, Turns, WordsRunUnder};
-ghost use Rattle.block_effects.specs.Words.{TellsOfMoves, progress_of};
+ghost use Rattle.block_effects.specs.Words.{TellsOfMoves, progress_of, values_in};
 
 use crate::control::{begin_for, called, choice, conditional, continue_for, jumped, leap, repeat};
 use crate::course::{BlockFault, Course, Done, Setup};
@@ -253,8 +253,8 @@ fn run_control<'a, S: Setup>(
     opener: &Stmt,
     stmt: &'a Stmt,
 ) -> Result<Course<'a>, u16>
-    requires opener { StatementFits (statement_view opener.now) }
-    requires fits { StatementFits (statement_view stmt.now) }
+    requires opener { FitsValues (values_in parameters.old) (statement_view opener.now) }
+    requires fits { FitsValues (values_in parameters.old) (statement_view stmt.now) }
     ensures turns { Turns (model.control_effect (S.names setup.now) parameters.old (statement_view opener.now)
         (statement_view stmt.now)) result parameters.new }
     ensures unchanged { OnErr result (parameters.new ≡ parameters.old) }
@@ -290,8 +290,8 @@ fn run_stmt<'a, S: Setup>(
 ) -> Result<Course<'a>, u16>
     requires groups { groups.now ≡ model.group_words (statement_view stmt.now) }
     requires once { IsTrue (not (has_group_twice groups.now)) }
-    requires opener { StatementFits (statement_view opener.now) }
-    requires fits { StatementFits (statement_view stmt.now) }
+    requires opener { FitsValues (values_in situation.old.parameters) (statement_view opener.now) }
+    requires fits { FitsValues (values_in situation.old.parameters) (statement_view stmt.now) }
     requires empty { item.old ≡ None }
     ensures runs { RunsUnder modal.now groups.now
         (equipment_of (S.names setup.now) (S.axis_named setup.now) (S.offset setup.now) axes.now) situation.old line
@@ -350,8 +350,8 @@ fn run<'a, S: Setup>(
     item: &mut Option<Item>,
 ) -> Result<Course<'a>, u16>
     requires groups { groups.now ≡ model.group_words (statement_view stmt.now) }
-    requires opener { StatementFits (statement_view opener.now) }
-    requires fits { StatementFits (statement_view stmt.now) }
+    requires opener { FitsValues (values_in situation.old.parameters) (statement_view opener.now) }
+    requires fits { FitsValues (values_in situation.old.parameters) (statement_view stmt.now) }
     requires empty { item.old ≡ None }
     ensures runs { RunsAsDefined (equipment_of (S.names setup.now) (S.axis_named setup.now) (S.offset setup.now)
         axes.now) situation.old line (statement_view opener.now) (statement_view stmt.now)
@@ -385,8 +385,8 @@ pub fn execute_to<'a, S: Setup>(
     stmt: &'a Stmt,
     item: &mut Option<Item>,
 ) -> Result<Course<'a>, BlockFault>
-    requires opener { StatementFits (statement_view opener.now) }
-    requires fits { StatementFits (statement_view stmt.now) }
+    requires opener { FitsValues (values_in situation.old.parameters) (statement_view opener.now) }
+    requires fits { FitsValues (values_in situation.old.parameters) (statement_view stmt.now) }
     requires empty { item.old ≡ None }
     ensures leaves { DoesAsDefined (equipment_of (S.names setup.now) (S.axis_named setup.now) (S.offset setup.now)
         axes.now) situation.old line (statement_view opener.now) (statement_view stmt.now)
@@ -440,8 +440,8 @@ pub fn execute<'a, S: Setup>(
     opener: &Stmt,
     stmt: &'a Stmt,
 ) -> Result<Done<'a>, BlockFault>
-    requires opener { StatementFits (statement_view opener.now) }
-    requires fits { StatementFits (statement_view stmt.now) }
+    requires opener { FitsValues (values_in situation.old.parameters) (statement_view opener.now) }
+    requires fits { FitsValues (values_in situation.old.parameters) (statement_view stmt.now) }
     ensures leaves { DoesAsDefined (equipment_of (S.names setup.now) (S.axis_named setup.now) (S.offset setup.now)
         axes.now) situation.old line (statement_view opener.now) (statement_view stmt.now) result situation.new }
     ensures modal { IfOk result (λ _. ModalIsAfter (model.group_words (statement_view stmt.now))

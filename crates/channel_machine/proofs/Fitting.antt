@@ -16,7 +16,7 @@ use Rattle.nc_control_flow.proofs.Leading.{first_counts, first_runs}
 use Rattle.nc_control_flow.proofs.Starting.{rests_at, after_counts, next_counts}
 use Rattle.nc_expressions.specs.Value.{◌>>=◌}
 use Rattle.nc_subprograms.specs.declared.Place.{Place}
-use Rattle.job_types.specs.Job.{JobView, ProgramView, block_entry}
+use Rattle.job_types.specs.Job.{JobView, ProgramView, block_entry, names_of}
 use Rattle.job_types.specs.SoundJob.{BlocksFit}
 use Rattle.channel_machine.specs.declared.levels.Levels.{Levels}
 use Rattle.channel_machine.specs.Levels.{lines_of, program_blocks, first_place, gone_on, after_call, has_block, levels_at, next_pass, begun_or, past_end, levels_from, levels_after, followed_from, Stands, LevelsFit}
@@ -129,39 +129,47 @@ followed_from_fits skip programs (Some levels) fit course next is = followed_fit
 
 -- ---- blocks
 
--- a block's parameter numbers
-abbrev LineFits : ℕ × BlockView → Type 0
-LineFits line = StatementFits line.1.statement
+-- the block of a line fits these names of variables
+abbrev LineFits : List (List ℕ) → ℕ × BlockView → Type 0
+LineFits names line = StatementFits names line.1.statement
 
-lines_fit : (job : JobView) → BlocksFit job → (number : ℕ) → All LineFits (lines_of job.programs number)
+-- so do the blocks of all lines of a program those of its own
+abbrev LinesFit : List (ℕ × BlockView) → Type 0
+LinesFit lines = All (LineFits (names_of lines)) lines
+
+lines_fit : (job : JobView) → BlocksFit job → (number : ℕ) → LinesFit (lines_of job.programs number)
 lines_fit job fit number = by_program job.programs number fit
   where
-    by_program : (programs : List (List ℕ × ProgramView)) (number : ℕ) → All (λ p. All LineFits p.1.blocks) programs → All LineFits (lines_of programs number)
-    by_program [] zero all = All-nil LineFits
-    by_program [] (suc k) all = All-nil LineFits
-    by_program (p ∷ ps) zero all = All-head (λ q. All LineFits q.1.blocks) p ps all
-    by_program (p ∷ ps) (suc k) all = by_program ps k (All-tail (λ q. All LineFits q.1.blocks) p ps all)
+    by_program : (programs : List (List ℕ × ProgramView)) (number : ℕ) → All (λ p. LinesFit p.1.blocks) programs → LinesFit (lines_of programs number)
+    by_program [] zero all = All-nil (LineFits (names_of []))
+    by_program [] (suc k) all = All-nil (LineFits (names_of []))
+    by_program (p ∷ ps) zero all = All-head (λ q. LinesFit q.1.blocks) p ps all
+    by_program (p ∷ ps) (suc k) all = by_program ps k (All-tail (λ q. LinesFit q.1.blocks) p ps all)
 
 module _ (job : JobView) (fit : BlocksFit job) (number : ℕ) (flow : List (ℕ × Block)) (lines : lines_of job.programs number ≡ map block_entry flow) where
-  all_fit : All LineFits (map block_entry flow)
-  all_fit = subst (λ (ls : List (ℕ × BlockView)). All LineFits ls) lines (lines_fit job fit number)
+  -- the names of the variables of the program
+  abbrev pub names : List (List ℕ)
+  names = names_of (map block_entry flow)
 
-  at_place : (entries : List (ℕ × Block)) (pc : ℕ) (e : ℕ × Block) → All LineFits (map block_entry entries) → slice_get entries pc ≡ Some e → StatementFits (statement_view e.1.stmt)
+  all_fit : All (LineFits names) (map block_entry flow)
+  all_fit = subst LinesFit lines (lines_fit job fit number)
+
+  at_place : (entries : List (ℕ × Block)) (pc : ℕ) (e : ℕ × Block) → All (LineFits names) (map block_entry entries) → slice_get entries pc ≡ Some e → StatementFits names (statement_view e.1.stmt)
   at_place [] zero e all is = absurd cc
   at_place [] (suc k) e all is = absurd cc
-  at_place (x ∷ xs) zero e all is = let same : x ≡ e = cc in subst (λ (y : ℕ × Block). StatementFits (statement_view y.1.stmt)) same (All-head LineFits (block_entry x) (map block_entry xs) all)
-  at_place (x ∷ xs) (suc k) e all is = at_place xs k e (All-tail LineFits (block_entry x) (map block_entry xs) all) is
+  at_place (x ∷ xs) zero e all is = let same : x ≡ e = cc in subst (λ (y : ℕ × Block). StatementFits names (statement_view y.1.stmt)) same (All-head (LineFits names) (block_entry x) (map block_entry xs) all)
+  at_place (x ∷ xs) (suc k) e all is = at_place xs k e (All-tail (LineFits names) (block_entry x) (map block_entry xs) all) is
 
-  -- the block at a place names parameters that there are
-  pub block_fits : (pc : ℕ) (e : ℕ × Block) → slice_get flow pc ≡ Some e → StatementFits (statement_view e.1.stmt)
+  -- the block at a place fits the names of the variables of its program
+  pub block_fits : (pc : ℕ) (e : ℕ × Block) → slice_get flow pc ≡ Some e → StatementFits names (statement_view e.1.stmt)
   block_fits pc e is = at_place flow pc e all_fit is
 
-  said_at : (entries : List (ℕ × Block)) (k : ℕ) → All LineFits (map block_entry entries) → StatementFits (statement_at k (views entries))
+  said_at : (entries : List (ℕ × Block)) (k : ℕ) → All (LineFits names) (map block_entry entries) → StatementFits names (statement_at k (views entries))
   said_at [] zero all = tt
   said_at [] (suc k) all = tt
-  said_at (x ∷ xs) zero all = All-head LineFits (block_entry x) (map block_entry xs) all
-  said_at (x ∷ xs) (suc k) all = said_at xs k (All-tail LineFits (block_entry x) (map block_entry xs) all)
+  said_at (x ∷ xs) zero all = All-head (LineFits names) (block_entry x) (map block_entry xs) all
+  said_at (x ∷ xs) (suc k) all = said_at xs k (All-tail (LineFits names) (block_entry x) (map block_entry xs) all)
 
   -- so does what stands at any place
-  pub statement_fits : (k : ℕ) → StatementFits (statement_at k (views flow))
+  pub statement_fits : (k : ℕ) → StatementFits names (statement_at k (views flow))
   statement_fits k = said_at flow k all_fit

@@ -22,7 +22,7 @@ use Rattle.sync_types.specs.declared.Item.{Item}
 use Rattle.sync_types.specs.declared.Step.{Step}
 use Rattle.channel_machine.specs.declared.levels.Levels.{Levels}
 use Rattle.channel_machine.specs.declared.local.State.{State}
-use Rattle.job_types.specs.Job.{JobView, ProgramView}
+use Rattle.job_types.specs.Job.{JobView, ProgramView, names_of}
 use Rattle.channel_machine.specs.Levels.{lines_of, program_blocks}
 use Rattle.channel_machine.specs.Run.{SurroundingsView, Executed, Deed, Did, Channel, SegmentView, block_at, item_of, parameters_after, chain_after, words_after, stands_after, line_after, blocks_of, grant_after, on_after, on_by_request, item_by, with_items_before, segment_of, step_at}
 use Rattle.job_types.specs.Slots.{offset_of}
@@ -136,12 +136,12 @@ state_view state = record {
 
 -- ---- answers
 
--- at a place stands this block on this line, with this beginning of the structure round it; both name parameters that there are
+-- at a place stands this block on this line, with this beginning of the structure round it; both fit the names of the variables of the program
 pub record IsThere (programs : List (List ℕ × ProgramView)) (here : Place) (line : ℕ) (block : BlockView) (opener : Statement) : Type 0 where
   pub found : slice_get (lines_of programs here.program) here.pc ≡ Some (line, block)
   pub opens : opener ≡ statement_at (opening here.pc (program_blocks programs here.program)) (program_blocks programs here.program)
-  pub fits : StatementFits block.statement
-  pub opener_fits : StatementFits opener
+  pub fits : StatementFits (names_of (lines_of programs here.program)) block.statement
+  pub opener_fits : StatementFits (names_of (lines_of programs here.program)) opener
 
 -- a block on, which stands where control is and asks for this, the segment ends with this step, or the channel goes on
 abbrev pub AdvancesBy : JobView → StateView → ℕ → BlockView → Statement → Option Request → List Item → Option Step → List Item → StateView → Type 0

@@ -4,7 +4,7 @@ ghost use Rattle.std.specs.Prelude.{◌≡◌, ◌≤◌, ◌<◌, None, length,
 ghost use Rattle.block_effects.specs.Words.{values_in};
 ghost use Rattle.channel_machine.specs.Coordination as model;
 ghost use Rattle.job_types.specs.Axes.{is_of};
-ghost use Rattle.nc_blocks.specs.Indices.{StatementFits};
+ghost use Rattle.nc_blocks.specs.Indices.{FitsValues};
 ghost use Rattle.nc_blocks.specs.Statement.{statement_view};
 ghost use Rattle.job_lines.specs.declared.limits.TheConstants.{PROGRAM_LIMIT};
 
@@ -159,7 +159,7 @@ pub(crate) fn request_in(
     stmt: &Stmt,
 ) -> Result<Option<Request>, u16>
     requires programs { length job.now.programs ≤ PROGRAM_LIMIT }
-    requires fits { StatementFits (statement_view stmt.now) }
+    requires fits { FitsValues (values_in parameters.now) (statement_view stmt.now) }
     ensures { result ≡ model.request_in (model.setting_in job.now channel axes.now.slots axes.now.owned)
         (values_in parameters.now) (statement_view stmt.now) }
 {

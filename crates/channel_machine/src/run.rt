@@ -4,7 +4,8 @@ ghost use Rattle.std.specs.Prelude.{◌≡◌, ◌≤◌, ◌<◌, ◌+◌, ◌+
 ghost use Rattle.std.specs.Option.{option_to_list};
 ghost use Rattle.axis_sets.specs.Positions.{stands};
 ghost use Rattle.block_effects.specs.Courses.{course_view};
-ghost use Rattle.nc_blocks.specs.Indices.{StatementFits};
+ghost use Rattle.block_effects.specs.Words.{values_in};
+ghost use Rattle.nc_blocks.specs.Indices.{FitsValues};
 ghost use Rattle.nc_blocks.specs.Statement.{statement_view, view_of};
 ghost use Rattle.nc_control_flow.specs.Parts.{statement_at, views};
 ghost use Rattle.nc_control_flow.specs.Structures.{opening};
@@ -320,8 +321,8 @@ fn perform(
     halt: &mut Option<Step>,
 ) -> Result<(), NoMemory>
     requires programs { length job.now.programs ≤ PROGRAM_LIMIT }
-    requires opener { StatementFits (statement_view next.opener.now) }
-    requires fits { StatementFits (statement_view next.block.now.stmt) }
+    requires opener { FitsValues (values_in state.old.situation.parameters) (statement_view next.opener.now) }
+    requires fits { FitsValues (values_in state.old.situation.parameters) (statement_view next.block.now.stmt) }
     requires fit { IfSome state.old.levels (LevelsFit job.now.skip job.now.programs) }
     requires few { state.old.count < BLOCK_LIMIT }
     requires goes { halt.old ≡ None }

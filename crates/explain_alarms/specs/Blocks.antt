@@ -1,8 +1,8 @@
 -- Meaning. Where the block of a line stands.
-use Rattle.std.specs.Prelude.{◌≡◌, ℕ, ◌<◌, ◌==◌, nat_lt, if◌then◌else◌, List, Option, Some, None, position}
+use Rattle.std.specs.Prelude.{◌≡◌, ℕ, ◌<◌, ◌==◌, nat_lt, if◌then◌else◌, List, Option, Some, None, map, position}
 use Rattle.std.specs.Option.{option_and_then}
 use Rattle.channel_machine.specs.Levels.{lines_of, program_blocks}
-use Rattle.job_types.specs.Job.{ProgramView}
+use Rattle.job_types.specs.Job.{ProgramView, block_entry, names_of}
 use Rattle.nc_blocks.specs.Indices.{StatementFits}
 use Rattle.nc_blocks.specs.Statement.{BlockView, Statement}
 use Rattle.nc_blocks.specs.declared.blocks.Block.{Block}
@@ -33,6 +33,6 @@ said_at programs place = statement_at place.1 (program_blocks programs place.0)
 abbrev pub opener_at : List (List ℕ × ProgramView) → ℕ × ℕ → Statement
 opener_at programs place = statement_at (opening place.1 (program_blocks programs place.0)) (program_blocks programs place.0)
 
--- each parameter that a block of these names by its number is one of those that a channel has
+-- each of these blocks fits the names of the variables of their program
 abbrev pub FlowFits : List (ℕ × Block) → Type 0
-FlowFits flow = (pc : ℕ) → StatementFits (statement_at pc (views flow))
+FlowFits flow = (pc : ℕ) → StatementFits (names_of (map block_entry flow)) (statement_at pc (views flow))

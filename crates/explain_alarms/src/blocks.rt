@@ -1,7 +1,7 @@
 //! Where the block of a line stands.
 ghost use Rattle.std.specs.Prelude.{◌≡◌, ◌<◌, ◌==◌, length, position, map, option_copied};
 ghost use Rattle.channel_machine.specs.Levels.{IsFlowOf};
-ghost use Rattle.job_types.specs.Job.{block_entry};
+ghost use Rattle.job_types.specs.Job.{block_entry, names_of};
 ghost use Rattle.nc_blocks.specs.Indices.{StatementFits};
 ghost use Rattle.nc_blocks.specs.Statement.{statement_view};
 ghost use Rattle.nc_control_flow.specs.Parts.{statement_at, views};
@@ -27,7 +27,7 @@ pub(crate) fn statement_of(flow: &Flow, pc: u32) -> &Stmt
     requires here { pc < length flow.now }
     requires fits { model.FlowFits flow.now }
     ensures says { statement_view result.now ≡ statement_at pc (views flow.now) }
-    ensures fits { StatementFits (statement_view result.now) }
+    ensures fits { StatementFits (names_of (map block_entry flow.now)) (statement_view result.now) }
 {
     match flow.block(pc) {
         Some((_, block)) => &block.stmt,
@@ -40,7 +40,7 @@ pub(crate) fn opener_of(flow: &Flow, pc: u32) -> &Stmt
     requires here { pc < length flow.now }
     requires fits { model.FlowFits flow.now }
     ensures says { statement_view result.now ≡ statement_at (opening pc (views flow.now)) (views flow.now) }
-    ensures fits { StatementFits (statement_view result.now) }
+    ensures fits { StatementFits (names_of (map block_entry flow.now)) (statement_view result.now) }
 {
     statement_of(flow, flow.opening(pc))
 }

@@ -14,7 +14,7 @@ use Rattle.channel_machine.specs.Scripts.{segment_after}
 use Rattle.channel_machine.specs.declared.levels.Levels.{Levels}
 use Rattle.channel_machine.specs.declared.passing.Passing.{Passing}
 use Rattle.g_groups.specs.Groups.{HasModalValue, holding_of}
-use Rattle.job_types.specs.Job.{JobView, ProgramView}
+use Rattle.job_types.specs.Job.{JobView, ProgramView, names_of}
 use Rattle.nc_blocks.specs.Indices.{StatementFits}
 use Rattle.nc_blocks.specs.Statement.{BlockView, Statement}
 use Rattle.sync_types.specs.declared.Grant.{Grant}
@@ -26,8 +26,13 @@ use Rattle.explain_assumptions.specs.declared.remarks.RemarkKind.TheVariants.{Mo
 use Rattle.explain_assumptions.specs.declared.walks.Coming.{Coming}
 
 -- ---- the block that comes
+-- the names of the variables of the program in which control is
+abbrev names_at : List (List ℕ × ProgramView) → Option Levels → List (List ℕ)
+names_at programs None = []
+names_at programs (Some levels) = names_of (lines_of programs levels.here.program)
+
 pub fits : (programs : List (List ℕ × ProgramView)) (levels : Option Levels) (line : ℕ) (block : BlockView) (opener : Statement) → Comes programs levels line block opener
-    → StatementFits opener × StatementFits block.statement
+    → StatementFits (names_at programs levels) opener × StatementFits (names_at programs levels) block.statement
 fits programs None line block opener is = absurd is
 fits programs (Some levels) line block opener is = (is.opener_fits, is.fits)
 

@@ -2,7 +2,7 @@
 ghost use Rattle.std.specs.Prelude.{◌≡◌, ◌++◌, ◌∷◌, [], All, map, OnOk};
 ghost use Rattle.std.specs.List.{flat_map};
 ghost use Rattle.block_effects.specs.Words.{values_in};
-ghost use Rattle.nc_blocks.specs.Indices.{EntryFits, OperandFits, OptionFits, StatementFits, WordFits};
+ghost use Rattle.nc_blocks.specs.Indices.{EntryFits, FitsValues, OperandFits, OptionFits, WordFits};
 ghost use Rattle.nc_blocks.specs.Statement.{frame_entry, operand_view, statement_view, tree_option, word_view};
 ghost use Rattle.nc_expressions.specs.Tree.{tree_of, IndicesFit};
 ghost use Rattle.explain_assumptions.specs.Reads as model;
@@ -246,7 +246,7 @@ fn add_end(
     line: u32,
     remarks: &mut Vec<Remark>,
 ) -> Result<(), AllocError>
-    requires { StatementFits (statement_view opener.now) }
+    requires { FitsValues (values_in parameters.now) (statement_view opener.now) }
     ensures { OnOk result (remarks.new.items ≡ remarks.old.items
         ++ model.end_reads (values_in parameters.now) line (statement_view opener.now)) }
 {
@@ -287,8 +287,8 @@ pub(crate) fn add_block(
     reader: &Reader,
     remarks: &mut Vec<Remark>,
 ) -> Result<(), AllocError>
-    requires opener { StatementFits (statement_view opener.now) }
-    requires fits { StatementFits (statement_view statement.now) }
+    requires opener { FitsValues (values_in reader.now.parameters.now) (statement_view opener.now) }
+    requires fits { FitsValues (values_in reader.now.parameters.now) (statement_view statement.now) }
     ensures { OnOk result (remarks.new.items ≡ remarks.old.items
         ++ model.block_reads (values_in reader.now.parameters.now) reader.now.line
         (statement_view opener.now) (statement_view statement.now)) }

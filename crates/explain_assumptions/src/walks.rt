@@ -9,7 +9,7 @@ ghost use Rattle.channel_machine.specs.Scripts.{segment_after};
 ghost use Rattle.channel_machine.specs.declared.limits.TheConstants.{BLOCK_LIMIT};
 ghost use Rattle.job_lines.specs.declared.limits.TheConstants.{PROGRAM_LIMIT};
 ghost use Rattle.job_types.specs.SoundJob.{BlocksFit};
-ghost use Rattle.nc_blocks.specs.Indices.{StatementFits};
+ghost use Rattle.nc_blocks.specs.Indices.{FitsValues};
 ghost use Rattle.nc_blocks.specs.Statement.{statement_view};
 ghost use Rattle.explain_assumptions.specs.Remarks as model;
 ghost use Rattle.explain_assumptions.specs.declared.remarks.RemarkKind.TheVariants as kind;
@@ -36,8 +36,8 @@ struct Coming {
 
 /// The remarks on what a block says.
 fn said_by(alloc: Global, next: &NextBlock, reader: &Reader) -> Result<Vec<Remark>, AllocError>
-    requires opener { StatementFits (statement_view next.now.opener.now) }
-    requires fits { StatementFits (statement_view next.now.block.now.stmt) }
+    requires opener { FitsValues (values_in reader.now.parameters.now) (statement_view next.now.opener.now) }
+    requires fits { FitsValues (values_in reader.now.parameters.now) (statement_view next.now.block.now.stmt) }
     ensures { IfOk result (λ list. list.items
         ≡ model.block_says (values_in reader.now.parameters.now) reader.now.line
         (statement_view next.now.opener.now) (statement_view next.now.block.now.stmt)) }

@@ -1,6 +1,6 @@
 //! The parameters that a block reads, with their values.
 ghost use Rattle.std.specs.Prelude.{◌≡◌, ◌≤◌, ◌<◌, IfOk};
-ghost use Rattle.nc_blocks.specs.Indices.{StatementFits};
+ghost use Rattle.nc_blocks.specs.Indices.{FitsValues};
 ghost use Rattle.nc_blocks.specs.Statement.{statement_view};
 ghost use Rattle.nc_expressions.specs.declared.limits.TheConstants.{PARAMETER_LIMIT};
 ghost use Rattle.explain_readings.specs.Readings as model;
@@ -24,8 +24,8 @@ pub struct Reading {
 /// A parameter, where the block reads it.
 #[tactic(auto, unfolding(crate::specs::Readings::reading_of))]
 fn reading_of<N: Names>(opener: &Stmt, statement: &Stmt, names: &N, number: u16) -> Option<Reading>
-    requires opener { StatementFits (statement_view opener.now) }
-    requires fits { StatementFits (statement_view statement.now) }
+    requires opener { FitsValues (N.values names.now) (statement_view opener.now) }
+    requires fits { FitsValues (N.values names.now) (statement_view statement.now) }
     requires number { number < PARAMETER_LIMIT }
     ensures { result ≡ model.reading_of (N.values names.now) (statement_view opener.now)
         (statement_view statement.now) number }
@@ -46,8 +46,8 @@ fn readings_below<N: Names>(
     names: &N,
     limit: u16,
 ) -> Result<Vec<Reading>, NoMemory>
-    requires opener { StatementFits (statement_view opener.now) }
-    requires fits { StatementFits (statement_view statement.now) }
+    requires opener { FitsValues (N.values names.now) (statement_view opener.now) }
+    requires fits { FitsValues (N.values names.now) (statement_view statement.now) }
     requires limit { limit ≤ PARAMETER_LIMIT }
     ensures { IfOk result (λ list. list.items ≡ model.readings_below (N.values names.now) (statement_view opener.now)
         (statement_view statement.now) limit) }
@@ -70,8 +70,8 @@ pub fn readings_in<N: Names>(
     statement: &Stmt,
     names: &N,
 ) -> Result<Vec<Reading>, NoMemory>
-    requires opener { StatementFits (statement_view opener.now) }
-    requires fits { StatementFits (statement_view statement.now) }
+    requires opener { FitsValues (N.values names.now) (statement_view opener.now) }
+    requires fits { FitsValues (N.values names.now) (statement_view statement.now) }
     ensures { IfOk result (λ list. list.items ≡ model.readings_of (N.values names.now) (statement_view opener.now)
         (statement_view statement.now)) }
 {

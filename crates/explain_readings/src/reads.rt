@@ -1,7 +1,7 @@
 //! Which parameters a block reads.
 ghost use Rattle.std.specs.Prelude.{◌≡◌, ◌≤◌, All, map};
 ghost use Rattle.std.specs.List.{list_any};
-ghost use Rattle.nc_blocks.specs.Indices.{EntryFits, OperandFits, OptionFits, StatementFits, WordFits};
+ghost use Rattle.nc_blocks.specs.Indices.{EntryFits, FitsValues, OperandFits, OptionFits, WordFits};
 ghost use Rattle.nc_blocks.specs.Statement.{frame_entry, operand_view, statement_view, tree_option, word_view};
 ghost use Rattle.nc_expressions.specs.Symbols as symbols;
 ghost use Rattle.nc_expressions.specs.Tree.{tree_of, IndicesFit};
@@ -129,7 +129,7 @@ fn entries_read<N: Names>(entries: &[(u8, Expr)], names: &N, number: u16) -> boo
 
 /// Whether ENDFOR reads a parameter, where this block begins the structure round it.
 fn end_reads<N: Names>(opener: &Stmt, names: &N, number: u16) -> bool
-    requires { StatementFits (statement_view opener.now) }
+    requires { FitsValues (N.values names.now) (statement_view opener.now) }
     ensures { result ≡ model.end_reads (N.values names.now) number (statement_view opener.now) }
 {
     match opener {
@@ -143,8 +143,8 @@ fn end_reads<N: Names>(opener: &Stmt, names: &N, number: u16) -> bool
 /// parameter that gets a value only the index in brackets is read.
 #[tactic(auto, unfolding(crate::specs::Reads::block_reads))]
 pub fn block_reads<N: Names>(opener: &Stmt, statement: &Stmt, names: &N, number: u16) -> bool
-    requires opener { StatementFits (statement_view opener.now) }
-    requires fits { StatementFits (statement_view statement.now) }
+    requires opener { FitsValues (N.values names.now) (statement_view opener.now) }
+    requires fits { FitsValues (N.values names.now) (statement_view statement.now) }
     ensures { result ≡ model.block_reads (N.values names.now) (statement_view opener.now)
         (statement_view statement.now) number }
 {

@@ -9,7 +9,7 @@ use Rattle.job_types.specs.declared.job.OffsetLine.{OffsetLine}
 use Rattle.job_types.specs.declared.job.Side.{Side}
 use Rattle.job_types.specs.declared.job.ZoneLine.{ZoneLine}
 use Rattle.job_types.specs.Axes.{first_owner}
-use Rattle.job_types.specs.Job.{JobView}
+use Rattle.job_types.specs.Job.{JobView, names_of}
 use Rattle.axis_sets.specs.declared.limits.TheConstants.{AXIS_LIMIT, CHANNEL_LIMIT, ZONE_LIMIT}
 use Rattle.job_lines.specs.declared.limits.TheConstants.{BUDGET_LIMIT, DEPTH_LIMIT, MARGIN_LIMIT, PROGRAM_LIMIT}
 use Rattle.micro_units.specs.Position.{IsPosition}
@@ -94,6 +94,6 @@ pub record IsSoundJob (job : JobView) : Type 0 where
   pub program_names : AllPairs (λ program other. program.0 ≢ other.0) job.programs
   pub programs : All (λ program. IsNested program.1.blocks) job.programs
 
--- the number of each parameter that a block names is one of the 1,000
+-- each block of a program fits the names of the variables of the program
 abbrev pub BlocksFit : JobView → Type 0
-BlocksFit job = All (λ program. All (λ block. StatementFits block.1.statement) program.1.blocks) job.programs
+BlocksFit job = All (λ program. All (λ block. StatementFits (names_of program.1.blocks) block.1.statement) program.1.blocks) job.programs

@@ -1,6 +1,7 @@
--- Law. Each parameter that a block names by its number is one of those that a channel has.
-use Rattle.std.specs.Prelude.{ℕ, ◌≤◌, All, Option, Some, None}
+-- Law. What a block names is there: each parameter that it names by its number is one of those that a channel has.
+use Rattle.std.specs.Prelude.{ℕ, ◌≤◌, All, List, [], Option, Some, None}
 use Rattle.nc_expressions.specs.Tree.{Tree, IndicesFit}
+use Rattle.nc_expressions.specs.Values.{Values}
 use Rattle.nc_blocks.specs.Statement.{OperandView, Value, Text, AxisName, WordView, Assign, AssignAt, G, Axis, Radius, Aux, End, Statement, Empty, WordBlock, Jump, IfJump, If, Else, EndIf, While, EndWhile, Repeat, Until, Loop, EndLoop, For, EndFor, Case, RepeatFrom, RepeatBlock, Call, Return, Proc, Shape, Turn, Coord, Message}
 use Rattle.nc_expressions.specs.declared.limits.TheConstants.{LAST_PARAMETER}
 
@@ -25,29 +26,42 @@ WordFits End = Unit {0}
 abbrev pub EntryFits : ℕ × Tree → Type 0
 EntryFits p = IndicesFit p.1
 
-abbrev pub StatementFits : Statement → Type 0
-StatementFits Empty = Unit {0}
-StatementFits (WordBlock words) = All WordFits words
-StatementFits (Jump j) = Unit {0}
-StatementFits (IfJump t j) = IndicesFit t
-StatementFits (If t) = IndicesFit t
-StatementFits Else = Unit {0}
-StatementFits EndIf = Unit {0}
-StatementFits (While t) = IndicesFit t
-StatementFits EndWhile = Unit {0}
-StatementFits Repeat = Unit {0}
-StatementFits (Until t) = IndicesFit t
-StatementFits Loop = Unit {0}
-StatementFits EndLoop = Unit {0}
-StatementFits (For i a b) = (i ≤ LAST_PARAMETER) × IndicesFit a × IndicesFit b
-StatementFits EndFor = Unit {0}
-StatementFits (Case t pairs d) = IndicesFit t
-StatementFits (RepeatFrom n t) = OptionFits t
-StatementFits (RepeatBlock n t) = OptionFits t
-StatementFits (Call n k) = Unit {0}
-StatementFits Return = Unit {0}
-StatementFits (Proc n) = Unit {0}
-StatementFits (Shape w axes) = All EntryFits axes
-StatementFits (Turn b t) = OptionFits t
-StatementFits (Coord w operands) = All OperandFits operands
-StatementFits Message = Unit {0}
+-- each parameter that a statement names by its number is one of those that a channel has
+abbrev pub StatementIndicesFit : Statement → Type 0
+StatementIndicesFit Empty = Unit {0}
+StatementIndicesFit (WordBlock words) = All WordFits words
+StatementIndicesFit (Jump j) = Unit {0}
+StatementIndicesFit (IfJump t j) = IndicesFit t
+StatementIndicesFit (If t) = IndicesFit t
+StatementIndicesFit Else = Unit {0}
+StatementIndicesFit EndIf = Unit {0}
+StatementIndicesFit (While t) = IndicesFit t
+StatementIndicesFit EndWhile = Unit {0}
+StatementIndicesFit Repeat = Unit {0}
+StatementIndicesFit (Until t) = IndicesFit t
+StatementIndicesFit Loop = Unit {0}
+StatementIndicesFit EndLoop = Unit {0}
+StatementIndicesFit (For i a b) = (i ≤ LAST_PARAMETER) × IndicesFit a × IndicesFit b
+StatementIndicesFit EndFor = Unit {0}
+StatementIndicesFit (Case t pairs d) = IndicesFit t
+StatementIndicesFit (RepeatFrom n t) = OptionFits t
+StatementIndicesFit (RepeatBlock n t) = OptionFits t
+StatementIndicesFit (Call n k) = Unit {0}
+StatementIndicesFit Return = Unit {0}
+StatementIndicesFit (Proc n) = Unit {0}
+StatementIndicesFit (Shape w axes) = All EntryFits axes
+StatementIndicesFit (Turn b t) = OptionFits t
+StatementIndicesFit (Coord w operands) = All OperandFits operands
+StatementIndicesFit Message = Unit {0}
+
+-- a statement fits a program whose variables have these names. No statement reads or sets a variable by its name yet, so today the names constrain nothing
+abbrev pub StatementFits : List (List ℕ) → Statement → Type 0
+StatementFits names statement = StatementIndicesFit statement
+
+-- the names that have a value where expressions read these values. No name has one yet
+abbrev pub names_with_values : Values → List (List ℕ)
+names_with_values values = []
+
+-- a statement fits where expressions read these values: it fits the names that have one
+abbrev pub FitsValues : Values → Statement → Type 0
+FitsValues values statement = StatementFits (names_with_values values) statement

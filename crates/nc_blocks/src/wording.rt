@@ -1,7 +1,7 @@
 //! The words of a word block.
 
 ghost use Rattle.nc_expressions.specs.Tree.{IndicesFit, tree_of};
-ghost use Rattle.nc_blocks.specs.Indices.{OperandFits, OptionFits, StatementFits, WordFits};
+ghost use Rattle.nc_blocks.specs.Indices.{OperandFits, OptionFits, StatementIndicesFit, WordFits};
 ghost use Rattle.std.specs.Prelude.{◌≡◌, ◌<◌, ◌≤◌, ◌+◌, ◌∷◌, length, IfOk, All, map};
 ghost use Rattle.std.specs.Bool.{OnTrue};
 ghost use Rattle.block_scanner.specs.Scanned.{IsScanned};
@@ -545,7 +545,7 @@ pub fn words_form(alloc: Global, words: &Words<'_>, at: usize) -> Result<Stmt, S
     requires scanned { IsScanned words.now }
     requires within { at ≤ length words.now.tokens }
     ensures exact { Gives statement_view (words_form words.now at) result }
-    ensures indices { IfOk result (λ s. StatementFits (statement_view s)) }
+    ensures indices { IfOk result (λ s. StatementIndicesFit (statement_view s)) }
 {
     let (list, _) = words_at(alloc, words, at)?;
     Ok(Stmt::Words(list))

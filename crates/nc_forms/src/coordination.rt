@@ -1,6 +1,6 @@
 //! Coordination.
 
-ghost use Rattle.nc_blocks.specs.Indices.{OperandFits, StatementFits};
+ghost use Rattle.nc_blocks.specs.Indices.{OperandFits, StatementIndicesFit};
 ghost use Rattle.std.specs.Prelude.{◌≡◌, ◌<◌, ◌≤◌, ◌+◌, ◌∷◌, [], map, length, IfOk, All};
 ghost use Rattle.block_scanner.specs.Scanned.{IsScanned};
 ghost use Rattle.nc_forms.specs.Coordination.{separator_at, value_argument_at, axis_at, axis_argument_at, argument_at, arguments_form, clear_form, quoted_at, is_wait, wait_at, last_of_init, third, opened_value, init_form, cprot_form, coordination_form};
@@ -155,7 +155,7 @@ fn arguments_form(
 ) -> Result<Stmt, SyntaxFault>
     requires { IsScanned words.now }
     ensures exact { Gives statement_view (arguments_form words.now kind which at) result }
-    ensures indices { IfOk result (λ s. StatementFits (statement_view s)) }
+    ensures indices { IfOk result (λ s. StatementIndicesFit (statement_view s)) }
 {
     match open_at(words, at, 22) {
         Ok(first) => {
@@ -177,7 +177,7 @@ fn clear_form(
     requires scanned { IsScanned words.now }
     requires within { at ≤ length words.now.tokens }
     ensures exact { Gives statement_view (clear_form words.now which at) result }
-    ensures indices { IfOk result (λ s. StatementFits (statement_view s)) }
+    ensures indices { IfOk result (λ s. StatementIndicesFit (statement_view s)) }
 {
     match piece_at(words, at + 1) {
         Piece::Close => match open_at(words, at, 22) {
@@ -305,7 +305,7 @@ fn init_form(
 ) -> Result<Stmt, SyntaxFault>
     requires { IsScanned words.now }
     ensures exact { Gives statement_view (init_form words.now which at) result }
-    ensures indices { IfOk result (λ s. StatementFits (statement_view s)) }
+    ensures indices { IfOk result (λ s. StatementIndicesFit (statement_view s)) }
 {
     let (channel, place) = opened_value(alloc, words, at)?;
     let program = quoted_at(alloc, words, place)?;
@@ -324,7 +324,7 @@ fn cprot_form(
 ) -> Result<Stmt, SyntaxFault>
     requires { IsScanned words.now }
     ensures exact { Gives statement_view (cprot_form words.now which at) result }
-    ensures indices { IfOk result (λ s. StatementFits (statement_view s)) }
+    ensures indices { IfOk result (λ s. StatementIndicesFit (statement_view s)) }
 {
     let (zone, place) = opened_value(alloc, words, at)?;
     let (state, following) = expression_at(alloc, words, place)?;
@@ -348,7 +348,7 @@ pub fn coordination_form(
     requires scanned { IsScanned words.now }
     requires within { at ≤ length words.now.tokens }
     ensures exact { Gives statement_view (coordination_form words.now which at) result }
-    ensures indices { IfOk result (λ s. StatementFits (statement_view s)) }
+    ensures indices { IfOk result (λ s. StatementIndicesFit (statement_view s)) }
 {
     match which {
         CoordWord::WaitM

@@ -1,7 +1,7 @@
 //! Frames.
 
 ghost use Rattle.nc_expressions.specs.Tree.{IndicesFit, tree_of};
-ghost use Rattle.nc_blocks.specs.Indices.{EntryFits, OptionFits, StatementFits};
+ghost use Rattle.nc_blocks.specs.Indices.{EntryFits, OptionFits, StatementIndicesFit};
 ghost use Rattle.std.specs.Prelude.{◌≡◌, ◌<◌, ◌≤◌, ◌+◌, ◌==◌, map, length, IfOk, IfSome, All};
 ghost use Rattle.std.specs.List.{list_any};
 ghost use Rattle.block_scanner.specs.Scanned.{IsScanned};
@@ -126,7 +126,7 @@ pub fn shape_form(
     requires scanned { IsScanned words.now }
     requires within { at ≤ length words.now.tokens }
     ensures exact { Gives statement_view (shape_form words.now which at) result }
-    ensures indices { IfOk result (λ s. StatementFits (statement_view s)) }
+    ensures indices { IfOk result (λ s. StatementIndicesFit (statement_view s)) }
 {
     match piece_at(words, at) {
         Piece::End => Ok(Stmt::Shape(which, Vec::new(alloc))),
@@ -186,7 +186,7 @@ pub fn turn_form(
 ) -> Result<Stmt, SyntaxFault>
     requires { IsScanned words.now }
     ensures exact { Gives statement_view (turn_form words.now more at) result }
-    ensures indices { IfOk result (λ s. StatementFits (statement_view s)) }
+    ensures indices { IfOk result (λ s. StatementIndicesFit (statement_view s)) }
 {
     let (angle, end) = angle_at(alloc, words, at)?;
     match turn_end(words, end) {

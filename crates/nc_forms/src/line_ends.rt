@@ -2,7 +2,7 @@
 
 ghost use Rattle.std.specs.Prelude.{IfOk};
 ghost use Rattle.block_scanner.specs.Scanned.{IsScanned};
-ghost use Rattle.nc_blocks.specs.Indices.{StatementFits};
+ghost use Rattle.nc_blocks.specs.Indices.{StatementIndicesFit};
 ghost use Rattle.nc_blocks.specs.Reading.{Gives};
 ghost use Rattle.nc_blocks.specs.Statement.{statement_view};
 ghost use Rattle.nc_forms.specs.LineEnds.{statement_alone};
@@ -15,9 +15,9 @@ use nc_expressions::SyntaxFault;
 #[tactic(auto, unfolding(crate::specs::LineEnds::statement_alone))]
 pub fn alone(words: &Words<'_>, at: usize, stmt: Stmt) -> Result<Stmt, SyntaxFault>
     requires scanned { IsScanned words.now }
-    requires fits { StatementFits (statement_view stmt) }
+    requires fits { StatementIndicesFit (statement_view stmt) }
     ensures exact { Gives statement_view (statement_alone words.now at (statement_view stmt)) result }
-    ensures indices { IfOk result (λ s. StatementFits (statement_view s)) }
+    ensures indices { IfOk result (λ s. StatementIndicesFit (statement_view s)) }
 {
     match end_at(words, at) {
         Ok(_) => Ok(stmt),

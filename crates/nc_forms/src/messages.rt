@@ -1,6 +1,6 @@
 //! Messages.
 
-ghost use Rattle.nc_blocks.specs.Indices.{StatementFits};
+ghost use Rattle.nc_blocks.specs.Indices.{StatementIndicesFit};
 ghost use Rattle.std.specs.Prelude.{◌≡◌, ◌<◌, ◌≤◌, ◌+◌, ◌-◌, length, reverse, position, IfOk, IfSome};
 ghost use Rattle.block_scanner.specs.Scanned.{IsScanned};
 ghost use Rattle.nc_forms.specs.Coordination.{after_text, msg_form, enclosed_at, setms_form, last_close, is_broken, has_broken, workpiece_form};
@@ -31,7 +31,7 @@ fn after_text(words: &Words<'_>, at: usize) -> usize
 pub fn msg_form(words: &Words<'_>, at: usize) -> Result<Stmt, SyntaxFault>
     requires { IsScanned words.now }
     ensures exact { Gives statement_view (msg_form words.now at) result }
-    ensures indices { IfOk result (λ s. StatementFits (statement_view s)) }
+    ensures indices { IfOk result (λ s. StatementIndicesFit (statement_view s)) }
 {
     match open_at(words, at, 22) {
         Ok(first) => match close_at(words, after_text(words, first), 22) {
@@ -65,7 +65,7 @@ fn enclosed_at(alloc: Global, words: &Words<'_>, at: usize) -> Result<usize, Syn
 pub fn setms_form(alloc: Global, words: &Words<'_>, at: usize) -> Result<Stmt, SyntaxFault>
     requires { IsScanned words.now }
     ensures exact { Gives statement_view (setms_form words.now at) result }
-    ensures indices { IfOk result (λ s. StatementFits (statement_view s)) }
+    ensures indices { IfOk result (λ s. StatementIndicesFit (statement_view s)) }
 {
     match piece_at(words, at) {
         Piece::Open => {
@@ -128,7 +128,7 @@ fn has_broken(words: &Words<'_>, start: usize, end: usize) -> bool
 pub fn workpiece_form(words: &Words<'_>, at: usize) -> Result<Stmt, SyntaxFault>
     requires { IsScanned words.now }
     ensures exact { Gives statement_view (workpiece_form words.now at) result }
-    ensures indices { IfOk result (λ s. StatementFits (statement_view s)) }
+    ensures indices { IfOk result (λ s. StatementIndicesFit (statement_view s)) }
 {
     match open_at(words, at, 22) {
         Ok(first) => match last_close(words) {

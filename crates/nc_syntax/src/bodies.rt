@@ -1,6 +1,6 @@
 //! The body of a block: its first token chooses the form.
 
-ghost use Rattle.nc_blocks.specs.Indices.{StatementFits};
+ghost use Rattle.nc_blocks.specs.Indices.{StatementIndicesFit};
 ghost use Rattle.std.specs.Prelude.{◌≡◌, ◌<◌, ◌≤◌, length, IfOk};
 ghost use Rattle.block_scanner.specs.Scanned.{IsScanned};
 ghost use Rattle.nc_syntax.specs.Bodies.{jump_name, structure_name, control_name, frame_name, coordination_name, form_of, control_form, form_body, named_body, lettered_body, body_at};
@@ -231,7 +231,7 @@ fn control_form(
     requires scanned { IsScanned words.now }
     requires within { at ≤ length words.now.tokens }
     ensures exact { Gives statement_view (control_form words.now which at) result }
-    ensures indices { IfOk result (λ s. StatementFits (statement_view s)) }
+    ensures indices { IfOk result (λ s. StatementIndicesFit (statement_view s)) }
 {
     match which {
         Control::If => if_form(alloc, words, at),
@@ -258,7 +258,7 @@ fn form_body(alloc: Global, words: &Words<'_>, form: Form, at: usize) -> Result<
     requires scanned { IsScanned words.now }
     requires within { at ≤ length words.now.tokens }
     ensures exact { Gives statement_view (form_body words.now form at) result }
-    ensures indices { IfOk result (λ s. StatementFits (statement_view s)) }
+    ensures indices { IfOk result (λ s. StatementIndicesFit (statement_view s)) }
 {
     match form {
         Form::Jump(way) => jump_form(words, way, at),
@@ -279,7 +279,7 @@ fn named_body(alloc: Global, words: &Words<'_>, text: &[u8], at: usize) -> Resul
     requires scanned { IsScanned words.now }
     requires within { at < length words.now.tokens }
     ensures exact { Gives statement_view (named_body words.now text.now at) result }
-    ensures indices { IfOk result (λ s. StatementFits (statement_view s)) }
+    ensures indices { IfOk result (λ s. StatementIndicesFit (statement_view s)) }
 {
     match form_of(text) {
         Some(form) => form_body(alloc, words, form, at + 1),
@@ -304,7 +304,7 @@ fn lettered_body(
     requires scanned { IsScanned words.now }
     requires within { at < length words.now.tokens }
     ensures exact { Gives statement_view (lettered_body words.now letter at) result }
-    ensures indices { IfOk result (λ s. StatementFits (statement_view s)) }
+    ensures indices { IfOk result (λ s. StatementIndicesFit (statement_view s)) }
 {
     if letter != b'L' {
         return words_form(alloc, words, at);
@@ -321,7 +321,7 @@ pub(crate) fn body_at(alloc: Global, words: &Words<'_>, at: usize) -> Result<Stm
     requires scanned { IsScanned words.now }
     requires within { at ≤ length words.now.tokens }
     ensures exact { Gives statement_view (body_at words.now at) result }
-    ensures indices { IfOk result (λ s. StatementFits (statement_view s)) }
+    ensures indices { IfOk result (λ s. StatementIndicesFit (statement_view s)) }
 {
     match piece_at(words, at) {
         Piece::End => Ok(Stmt::Empty),

@@ -1,6 +1,6 @@
 //! Jumps, IF and CASE.
 
-ghost use Rattle.nc_blocks.specs.Indices.{StatementFits};
+ghost use Rattle.nc_blocks.specs.Indices.{StatementIndicesFit};
 ghost use Rattle.std.specs.Prelude.{◌≡◌, ◌<◌, ◌≤◌, ◌+◌, ℤ, List, length, codes, IfOk, IfSome};
 ghost use Rattle.block_scanner.specs.Scanned.{IsScanned};
 ghost use Rattle.nc_expressions.specs.Tree.{tree_of, IndicesFit};
@@ -94,7 +94,7 @@ pub(crate) fn if_form(alloc: Global, words: &Words<'_>, at: usize) -> Result<Stm
     requires scanned { IsScanned words.now }
     requires within { at ≤ length words.now.tokens }
     ensures exact { Gives statement_view (if_form words.now at) result }
-    ensures indices { IfOk result (λ s. StatementFits (statement_view s)) }
+    ensures indices { IfOk result (λ s. StatementIndicesFit (statement_view s)) }
 {
     let (condition, end) = expression_at(alloc, words, at)?;
     match way_at(words, end) {
@@ -231,7 +231,7 @@ fn default_at(words: &Words<'_>, at: usize) -> Result<Option<JumpTo>, u16>
 pub(crate) fn case_form(alloc: Global, words: &Words<'_>, at: usize) -> Result<Stmt, SyntaxFault>
     requires { IsScanned words.now }
     ensures exact { Gives statement_view (case_form words.now at) result }
-    ensures indices { IfOk result (λ s. StatementFits (statement_view s)) }
+    ensures indices { IfOk result (λ s. StatementIndicesFit (statement_view s)) }
 {
     let (value, first) = case_value(alloc, words, at)?;
     let (pairs, end) = pairs_at(alloc, words, first)?;
@@ -246,7 +246,7 @@ pub(crate) fn case_form(alloc: Global, words: &Words<'_>, at: usize) -> Result<S
 pub(crate) fn jump_form(words: &Words<'_>, way: Way, at: usize) -> Result<Stmt, SyntaxFault>
     requires { IsScanned words.now }
     ensures exact { Gives statement_view (jump_form words.now way at) result }
-    ensures indices { IfOk result (λ s. StatementFits (statement_view s)) }
+    ensures indices { IfOk result (λ s. StatementIndicesFit (statement_view s)) }
 {
     match last_jump_at(words, way, at) {
         Ok(jump) => Ok(Stmt::Jump(jump)),

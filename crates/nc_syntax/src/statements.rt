@@ -6,7 +6,7 @@ ghost use Rattle.block_scanner.specs.Scanned.{IsScanned};
 ghost use Rattle.nc_syntax.specs.Spelled.{Spells, IsAccepted};
 ghost use Rattle.nc_syntax.specs.Places.{BreaksOff};
 ghost use Rattle.nc_syntax.specs.Blocks.{skip_of, has_number, number_at, label_at, head_of, block_of, statement_of};
-ghost use Rattle.nc_blocks.specs.Indices.{StatementFits};
+ghost use Rattle.nc_blocks.specs.Indices.{StatementIndicesFit};
 ghost use Rattle.nc_blocks.specs.Reading.{Gives};
 ghost use Rattle.nc_blocks.specs.Refusals.{IsListed};
 ghost use Rattle.nc_blocks.specs.Statement.{BlockView, statement_view, view_of};
@@ -97,7 +97,7 @@ fn head_of(words: &Words<'_>) -> Result<(bool, Option<u32>, usize), u16>
 fn block_of(alloc: Global, words: &Words<'_>) -> Result<Block, SyntaxFault>
     requires { IsScanned words.now }
     ensures exact { Gives view_of (block_of words.now) result }
-    ensures indices { IfOk result (λ b. StatementFits (statement_view b.stmt)) }
+    ensures indices { IfOk result (λ b. StatementIndicesFit (statement_view b.stmt)) }
 {
     match head_of(words) {
         Ok((skip, number, place)) => {
@@ -123,7 +123,7 @@ fn statement_exactly(
 ) -> Result<Block, SyntaxFault>
     requires { IsScanned words.now }
     ensures exact { Gives view_of (statement_of words.now compensation) result }
-    ensures indices { IfOk result (λ b. StatementFits (statement_view b.stmt)) }
+    ensures indices { IfOk result (λ b. StatementIndicesFit (statement_view b.stmt)) }
 {
     match refused_word(words, compensation) {
         Some(code) => Err(SyntaxFault::Refused(code)),
@@ -157,7 +157,7 @@ pub fn statement(alloc: Global, words: &Words<'_>, compensation: bool) -> Result
 
     ensures exact { Gives view_of (statement_of words.now compensation) result }
     ensures listed { IfErr result IsListed }
-    ensures indices { IfOk result (λ b. StatementFits (statement_view b.stmt)) }
+    ensures indices { IfOk result (λ b. StatementIndicesFit (statement_view b.stmt)) }
 {
     statement_exactly(alloc, words, compensation)
 }

@@ -1,6 +1,6 @@
 //! Loops, repetitions, calls and what stands alone.
 
-ghost use Rattle.nc_blocks.specs.Indices.{OptionFits, StatementFits};
+ghost use Rattle.nc_blocks.specs.Indices.{OptionFits, StatementIndicesFit};
 ghost use Rattle.std.specs.Prelude.{◌≡◌, ◌<◌, ◌≤◌, ◌∷◌, length, IfOk, codes};
 ghost use Rattle.block_scanner.specs.Scanned.{IsScanned};
 ghost use Rattle.nc_expressions.specs.Tree.{tree_of, IndicesFit};
@@ -76,7 +76,7 @@ fn first_value(alloc: Global, words: &Words<'_>, at: usize) -> Result<(Expr, usi
 pub(crate) fn for_form(alloc: Global, words: &Words<'_>, at: usize) -> Result<Stmt, SyntaxFault>
     requires { IsScanned words.now }
     ensures exact { Gives statement_view (for_form words.now at) result }
-    ensures indices { IfOk result (λ s. StatementFits (statement_view s)) }
+    ensures indices { IfOk result (λ s. StatementIndicesFit (statement_view s)) }
 {
     match counter_at(words, at) {
         Ok((index, following)) => {
@@ -112,7 +112,7 @@ fn times_at(alloc: Global, words: &Words<'_>, at: usize) -> Result<Option<Expr>,
 pub(crate) fn repeat_form(alloc: Global, words: &Words<'_>, at: usize) -> Result<Stmt, SyntaxFault>
     requires { IsScanned words.now }
     ensures exact { Gives statement_view (repeat_form words.now at) result }
-    ensures indices { IfOk result (λ s. StatementFits (statement_view s)) }
+    ensures indices { IfOk result (λ s. StatementIndicesFit (statement_view s)) }
 {
     match piece_at(words, at) {
         Piece::Name => {
@@ -133,7 +133,7 @@ pub(crate) fn repeat_block_form(
 ) -> Result<Stmt, SyntaxFault>
     requires { IsScanned words.now }
     ensures exact { Gives statement_view (repeat_block_form words.now at) result }
-    ensures indices { IfOk result (λ s. StatementFits (statement_view s)) }
+    ensures indices { IfOk result (λ s. StatementIndicesFit (statement_view s)) }
 {
     match label_at(words, at) {
         Ok(label) => {
@@ -227,7 +227,7 @@ pub(crate) fn call_form(words: &Words<'_>, name: NameText, at: usize) -> Result<
     requires scanned { IsScanned words.now }
     requires within { at ≤ length words.now.tokens }
     ensures exact { Gives statement_view (call_form words.now name at) result }
-    ensures indices { IfOk result (λ s. StatementFits (statement_view s)) }
+    ensures indices { IfOk result (λ s. StatementIndicesFit (statement_view s)) }
 {
     match call_passes(words, at) {
         Ok(passes) => Ok(Stmt::Call(name, passes)),
@@ -253,7 +253,7 @@ pub(crate) fn number_call_form(words: &Words<'_>, at: usize) -> Result<Stmt, Syn
     requires scanned { IsScanned words.now }
     requires within { at < length words.now.tokens }
     ensures exact { Gives statement_view (number_call_form words.now at) result }
-    ensures indices { IfOk result (λ s. StatementFits (statement_view s)) }
+    ensures indices { IfOk result (λ s. StatementIndicesFit (statement_view s)) }
 {
     match number_name(text_at(words, at)) {
         Ok(name) => call_form(words, name, at + 1),
@@ -266,7 +266,7 @@ pub(crate) fn number_call_form(words: &Words<'_>, at: usize) -> Result<Stmt, Syn
 pub(crate) fn proc_form(words: &Words<'_>, at: usize) -> Result<Stmt, SyntaxFault>
     requires { IsScanned words.now }
     ensures exact { Gives statement_view (proc_form words.now at) result }
-    ensures indices { IfOk result (λ s. StatementFits (statement_view s)) }
+    ensures indices { IfOk result (λ s. StatementIndicesFit (statement_view s)) }
 {
     match label_at(words, at) {
         Ok(name) => {

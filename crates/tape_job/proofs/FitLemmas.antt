@@ -2,13 +2,17 @@
 use Rattle.std.proofs.Common.{◌≡◌, ℕ, ◌+◌, ◌≤◌, List, [], ◌∷◌, ◌++◌, length-append, Result, Ok, Err, IfOk, Option, Some, None, ap, subst, sym, arith}
 use Rattle.std.specs.List.{All}
 use Rattle.std.proofs.lemmas.List.Elements.{All-nil}
-use Rattle.nc_blocks.specs.Indices.{StatementFits}
+use Rattle.nc_blocks.specs.Indices.{StatementFits, StatementIndicesFit}
 use Rattle.fault_codes.specs.declared.Refusal.{Refusal}
 use Rattle.tape_job.specs.declared.fault.JobFault.{JobFault}
 use Rattle.tape_job.specs.declared.fault.JobFault.TheVariants.{Refused, NoMemory}
 use Rattle.job_types.specs.declared.job.Job.{Job}
 use Rattle.nc_blocks.specs.Statement.{BlockView}
+<<<<<<< HEAD
 use Rattle.job_types.specs.Job.{JobView, ProgramView, program_of}
+=======
+use Rattle.job_types.specs.Job.{JobView, ProgramView, names_of}
+>>>>>>> 5e3ca5d838a569eaa64e53dbbf052b45be72f18c
 use Rattle.tape_job.specs.Lines.{Line}
 use Rattle.tape_job.specs.Read.{answer, GivesRead}
 use Rattle.tape_job.specs.Reading.{ReadingView, Blank, First, DeclarationLine, Header, BlockLine, reading_of, ReadingFits}
@@ -24,8 +28,8 @@ unfolding with_line
 reading_fits job number Blank all fits = all
 reading_fits job number First all fits = all
 reading_fits job number (DeclarationLine declaration) all fits = all
-reading_fits job number (Header name) all fits = header_told (λ block. StatementFits block.1.statement) job.programs number name all
-reading_fits job number (BlockLine block) all fits = block_told (λ b. StatementFits b.1.statement) job.programs (number, block) all fits
+reading_fits job number (Header name) all fits = header_told (λ block. StatementIndicesFit block.1.statement) job.programs number name all
+reading_fits job number (BlockLine block) all fits = block_told (λ b. StatementIndicesFit b.1.statement) job.programs (number, block) all fits
 
 pub line_fits : (facts_of new : Told) (line : Line) (reading : ReadingView) → reading_of facts_of.seen facts_of.in_programs facts_of.job.compensation line.1 ≡ Ok reading → ReadingFits reading
     → BlocksFit facts_of.job → new ≡ tell facts_of line → BlocksFit new.job
@@ -36,7 +40,7 @@ line_fits facts_of new line reading says fits all same =
 
 pub nothing_fits : (now : Told) → now ≡ facts_of [] → BlocksFit now.job
 unfolding facts_of
-nothing_fits now same = subst (λ (t : Told). BlocksFit t.job) (sym same) (All-nil (λ program. All (λ block. StatementFits block.1.statement) program.1.blocks))
+nothing_fits now same = subst (λ (t : Told). BlocksFit t.job) (sym same) (All-nil (λ program. All (λ block. StatementFits (names_of program.1.blocks) block.1.statement) program.1.blocks))
 
 pub answered_fits : (refused : Option Refusal) (facts_of job : JobView) → BlocksFit facts_of → answer refused facts_of ≡ Ok job → BlocksFit job
 answered_fits None facts_of job all same = let is : facts_of ≡ job = cc in subst BlocksFit is all

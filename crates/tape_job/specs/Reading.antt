@@ -15,7 +15,7 @@ use Rattle.job_lines.specs.declared.code.Code.{Code}
 use Rattle.job_lines.specs.declared.code.Code.TheVariants.{NoJobLine, LineTooLong, BadByte, UnknownJobLine, OpenText}
 use Rattle.job_lines.specs.declared.declaration.Declaration.{Declaration}
 use Rattle.fault_codes.specs.Codes.{IsRefusalCode}
-use Rattle.nc_blocks.specs.Indices.{StatementFits}
+use Rattle.nc_blocks.specs.Indices.{StatementIndicesFit}
 use Rattle.nc_expressions.specs.NameTexts.{upper}
 use Rattle.nc_blocks.specs.Statement.{BlockView, view_of}
 use Rattle.nc_syntax.specs.Blocks.{statement_of}
@@ -114,7 +114,7 @@ Gives (Err NoMemory) read = Unit {0}
 
 -- the parameter numbers of a block fit
 abbrev pub ReadingFits : ReadingView → Type 0
-ReadingFits (BlockLine block) = StatementFits block.statement
+ReadingFits (BlockLine block) = StatementIndicesFit block.statement
 ReadingFits _ = Unit {0}
 
 -- a refusal's code has a text
