@@ -14,15 +14,11 @@ use Rattle.tool_offsets.specs.declared.tools.ToolEdge.{ToolEdge}
 abbrev pub block_entry : ℕ × Block → ℕ × BlockView
 block_entry entry = (entry.0, view_of entry.1)
 
-<<<<<<< HEAD
--- a program: the line of its header, its blocks, each with its line, and its variables
-=======
 -- the names of the variables that the blocks of a program define. No block defines one yet
 abbrev pub names_of : List (ℕ × BlockView) → List (List ℕ)
 names_of blocks = []
 
--- a program: the line of its header, and its blocks, each with its line
->>>>>>> 5e3ca5d838a569eaa64e53dbbf052b45be72f18c
+-- a program: the line of its header, its blocks, each with its line, and its variables
 pub record ProgramView : Type 0 where
   pub line : ℕ
   pub blocks : List (ℕ × BlockView)

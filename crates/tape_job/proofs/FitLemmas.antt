@@ -8,11 +8,7 @@ use Rattle.tape_job.specs.declared.fault.JobFault.{JobFault}
 use Rattle.tape_job.specs.declared.fault.JobFault.TheVariants.{Refused, NoMemory}
 use Rattle.job_types.specs.declared.job.Job.{Job}
 use Rattle.nc_blocks.specs.Statement.{BlockView}
-<<<<<<< HEAD
-use Rattle.job_types.specs.Job.{JobView, ProgramView, program_of}
-=======
-use Rattle.job_types.specs.Job.{JobView, ProgramView, names_of}
->>>>>>> 5e3ca5d838a569eaa64e53dbbf052b45be72f18c
+use Rattle.job_types.specs.Job.{JobView, ProgramView, names_of, program_of}
 use Rattle.tape_job.specs.Lines.{Line}
 use Rattle.tape_job.specs.Read.{answer, GivesRead}
 use Rattle.tape_job.specs.Reading.{ReadingView, Blank, First, DeclarationLine, Header, BlockLine, reading_of, ReadingFits}
