@@ -1,13 +1,9 @@
 //! Reads a run step by step: what happens in each, and the counters of its events.
-ghost use Rattle.axis_sets.specs.declared.limits.TheConstants.{CHANNEL_LIMIT, CHANNEL_PLACES};
 ghost use Rattle.order_clocks.specs.Clocked.{moves_in};
-ghost use Rattle.order_clocks.specs.Happenings.{board_at, happening_of};
 ghost use Rattle.order_clocks.specs.Reading.{IsReadAt, IsReaderAt};
 ghost use Rattle.order_clocks.specs.Stops.{IsWhole};
-ghost use Rattle.order_clocks.specs.Watching.{BeginIsSound, IsLawful, IsRead, Keeps, WatchIsSound};
-ghost use Rattle.std.specs.Prelude.{◌≡◌, ℕ, suc, ◌<◌, ◌≤◌, ◌^◌, false, length, IfOk};
+ghost use Rattle.std.specs.Prelude.{◌≡◌, ℕ, suc, ◌<◌, ◌^◌, false, length, IfOk};
 ghost use Rattle.sync_types.specs.Boards.{Board};
-ghost use Rattle.sync_types.specs.Turns.{after_step};
 ghost use Rattle.step_deeds.specs.Holds.{BeginsAtMark, DepartsFromMark, departure_of, goes_in};
 
 use crate::LastClocks;
