@@ -102,6 +102,25 @@ fn say_groups(text: &mut Text, told: &Told, known: &LineTexts, met: &[Meeting], 
     say_each(text, told, known, met, groups);
 }
 
+/// The pairs of lines that meet, and the texts of these lines.
+#[derive(Clone, Copy)]
+struct LinePairs<'a> {
+    groups: &'a [Group],
+    known: &'a LineTexts,
+}
+
+/// Says of the verdict NO these first two boxes that meet, by what they would be apart, and all pairs of lines that meet.
+fn say_met(text: &mut Text, judged: &Judged, pairs: &LinePairs<'_>, first: &Meeting, clash: &Clash)
+    requires { AreSaid judged.now.lines.now judged.now.job.now pairs.now.known.now }
+    ensures { text.new ≡ text.old ++ (model.first_text judged.now.lines.now judged.now.job.now judged.now.run.now
+        first.now clash.now ++ model.groups_text judged.now.lines.now judged.now.job.now
+        judged.now.met.now pairs.now.groups.now) }
+{
+    let told = judged.told();
+    say_first(text, &told, first, clash);
+    say_groups(text, &told, pairs.known, judged.met, pairs.groups);
+}
+
 /// A text, and after it what is said of the verdict NO, whose first two boxes that meet are these, with these others.
 fn first_told(
     alloc: Global,
@@ -118,10 +137,12 @@ fn first_told(
 {
     let clash = clash_of(judged.job, judged.run, first);
     let groups = groups_of(alloc, judged.met)?;
-    let told = judged.told();
-    let known = texts_of(alloc, &told, judged.met, groups.as_slice())?;
-    say_first(&mut text, &told, first, &clash);
-    say_groups(&mut text, &told, &known, judged.met, groups.as_slice());
+    let known = texts_of(alloc, &judged.told(), judged.met, groups.as_slice())?;
+    let pairs = LinePairs {
+        groups: groups.as_slice(),
+        known: &known,
+    };
+    say_met(&mut text, judged, &pairs, first, &clash);
     Ok(text)
 }
 

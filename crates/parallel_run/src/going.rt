@@ -66,7 +66,12 @@ impl RunSoFar {
         ensures items { result.items ≡ map (λ items. items.items) self.items.items }
         ensures ends { result.ends ≡ ends.items }
     {
-        let RunSoFar { board, items, .. } = self;
+        let RunSoFar {
+            board,
+            locals,
+            items,
+        } = self;
+        drop(locals);
         Run {
             entries: board.into_entries(),
             items,

@@ -10,7 +10,7 @@ use Rattle.sync_types.specs.Boards.{Board}
 abbrev pub invariant-loop-place : goal.invariant-loop-place
 invariant-loop-place l = record {
   size : length l.table.steps ≡ l.place;
-  first : (b : Board) → IsWhole b l.entries l.ends → IsReaderAt b l.entries 0 l.first;
+  first : (b : Board) → IsWhole b l.entries l.ends → IsReaderAt b l.entries 0 l.replay.first.now;
   reader : (b : Board) → IsWhole b l.entries l.ends → IsReaderAt b l.entries l.place l.reader;
   searched : (b : Board) → IsWhole b l.entries l.ends → IsSearched b (moves_in l.entries) l.place l.search;
   tells : (b : Board) → IsWhole b l.entries l.ends → Tells (course_of b (moves_in l.entries)) l.table;

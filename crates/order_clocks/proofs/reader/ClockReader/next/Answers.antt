@@ -16,7 +16,7 @@ pub returns-clause-next : goal.returns-clause-next
 returns-clause-next c = λ b reader.
     let one = c.index-entries-place.result in
     let entry = entry_read b c.args.entries.now c.args.place one c.args.self.now c.is_at-alarms.result c.requires.place c.index-entries-place.is reader c.is_at-alarms.ensures in
-    next_reader b c.args.entries.now c.args.place one c.is_at-alarms.result c.tell.new.deed c.args.self.now c.tell.new.self.watch c.step.new.self entry reader
+    next_reader b c.args.entries.now c.args.place one c.is_at-alarms.result c.tell.new.deed c.args.self.now c.tell.new.self c.step.new.self entry reader
     (c.tell.ensures.reads (board_at b (moves_in c.args.entries.now) c.args.place) reader.keeps entry.lawful)
     c.tell.ensures.sound
     (c.tell.ensures.keeps (board_at b (moves_in c.args.entries.now) c.args.place) reader.keeps entry.lawful)
@@ -26,7 +26,7 @@ pub returns-clause-read : goal.returns-clause-read
 returns-clause-read c = λ b reader.
     let one = c.index-entries-place.result in
     let entry = entry_read b c.args.entries.now c.args.place one c.args.self.now c.is_at-alarms.result c.requires.place c.index-entries-place.is reader c.is_at-alarms.ensures in
-    read_at b c.args.entries.now c.args.place one c.is_at-alarms.result c.tell.new.deed c.step.new.rows c.tell.new.self.watch entry
+    read_at b c.args.entries.now c.args.place one c.is_at-alarms.result c.tell.new.deed c.step.new.rows c.tell.new.self entry
     (c.tell.ensures.reads (board_at b (moves_in c.args.entries.now) c.args.place) reader.keeps entry.lawful)
     c.tell.ensures.sound
     (c.tell.ensures.keeps (board_at b (moves_in c.args.entries.now) c.args.place) reader.keeps entry.lawful)
