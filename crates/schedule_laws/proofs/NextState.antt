@@ -1,6 +1,6 @@
 -- The machine after a clean step is its turn.
 use Rattle.std.proofs.Math.Path.{fun_ext}
-use Rattle.std.proofs.Common.{◌≡◌, ℕ, ℤ, suc, ◌&&◌, not, Bool, true, List, filter, Option, Some, None, inl, inr, refl, sym, ap, ap₂, subst, ◌∙◌}
+use Rattle.std.proofs.Common.{◌≡◌, ℕ, ℤ, suc, ◌&&◌, not, Bool, List, filter, Option, Some, None, inl, inr, refl, sym, ap, ap₂, subst, ◌∙◌}
 use Rattle.std.specs.Option.{option_map_or}
 use Rattle.std.proofs.lemmas.Bool.{cases_Bool}
 use Rattle.sync_types.specs.Boards.{OwnedBy, FreeAt, Ownership, Board, among, channel_numbers, owner_of, ownership_of}

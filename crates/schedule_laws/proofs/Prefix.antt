@@ -1,6 +1,7 @@
 -- A run after some steps does not depend on the steps to come.
 use Rattle.std.proofs.Math.Path.{fun_ext}
 use Rattle.std.proofs.Common.{◌≡◌, ℕ, zero, suc, ◌≤◌, ◌<◌, ◌==◌, ◌&&◌, List, [], ◌∷◌, ◌++◌, length, filter, Option, Some, None, refl, sym, ap, ap₂, ◌∙◌, arith, if◌then◌else◌}
+use Rattle.std.specs.Option.{option_map_or}
 use Rattle.sync_types.specs.Boards.{Board, among, channel_numbers, grant_in, owner_of}
 use Rattle.sync_types.specs.Events.{channels_in, pairs_of}
 use Rattle.sync_types.specs.GoingOn.{first_of, free_position}
