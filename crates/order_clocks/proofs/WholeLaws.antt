@@ -108,33 +108,28 @@ filter_alike p q (x ∷ xs) same = rw (same x (here (x == x) (among xs x) (eq-eq
     later true t on = refl
     later false t on = on
 
+in_range : (a n c : ℕ) → a ≤ c → c < a + n → among (range_with_len a n) c ≡ true
+in_range a zero c from below = absurd (omega arith)
+in_range a (suc n) c from below = elim (cases_Bool (a == c)) [
+  | inl here ↦ rw here refl
+  | inr other ↦
+      let apart : a ≡ c → ⊥ = λ same. no_truth (a == c) (eq-eqb a c same) other in
+      rw other (in_range (a + 1) n c (omega arith) (omega arith))
+]
+
 -- a channel of the machine is among the numbers
 numbered : (c : ℕ) → 1 ≤ c → c < CHANNEL_PLACES → among channel_numbers c ≡ true
-numbered c from below = in_list 1 CHANNEL_LIMIT c from (omega arith)
-  where
-    first : (p q : Bool) → p ≡ true → (p || q) ≡ true
-    first p q on = rw on refl
-
-    second : (p q : Bool) → q ≡ true → (p || q) ≡ true
-    second true q on = refl
-    second false q on = on
-
-    in_list : (from count c : ℕ) → from ≤ c → c < from + count → among (range_with_len from count) c ≡ true
-    in_list from zero c low high = absurd (omega arith)
-    in_list from (suc n) c low high = elim (cases_lt from c) [
-      | inl later ↦ second (from == c) (among (range_with_len (suc from) n) c) (in_list (suc from) n c (omega arith) (omega arith))
-      | inr here ↦ first (from == c) (among (range_with_len (suc from) n) c) (eq-eqb from c (omega arith))
-    ]
+numbered c from below = in_range 1 CHANNEL_LIMIT c from (omega arith)
 
 -- of ends of which none is an alarm no flag is set
 no_flags : (ends : List ChannelEnd) → list_any is_alarm_end ends ≡ false → list_any (λ t. t) (alarms_in ends) ≡ false
 no_flags [] none = refl
-no_flags (e ∷ es) none = by_end e refl
+no_flags (e ∷ es) none = by_end e refl (no_flags es)
   where
-    by_end : (x : ChannelEnd) → e ≡ x → list_any (λ t. t) (alarms_in (e ∷ es)) ≡ false
-    by_end ends.Idle is = rw is (no_flags es (rw is at none))
-    by_end (ends.Alarmed alarm) is = no_truth true refl (rw is at none)
-    by_end other is = rw is (no_flags es (rw is at none))
+    by_end : (x : ChannelEnd) → e ≡ x → (list_any is_alarm_end es ≡ false → list_any (λ t. t) (alarms_in es) ≡ false) → list_any (λ t. t) (alarms_in (e ∷ es)) ≡ false
+    by_end ends.Idle is rest = rw is (rest (rw is at none))
+    by_end (ends.Alarmed alarm) is rest = no_truth true refl (rw is at none)
+    by_end other is rest = rw is (rest (rw is at none))
 
 -- a channel that is kept and has the flag sets one
 flag_set : (f kept : ℕ → Bool) (cs : List ℕ) (c : ℕ) → among cs c ≡ true → kept c ≡ true → f c ≡ true → list_any (λ t. t) (map f (filter kept cs)) ≡ true
