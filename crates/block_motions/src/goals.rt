@@ -219,6 +219,15 @@ fn goal_by_name(conditions: &Conditions, programmed: Programmed) -> Goal
     }
 }
 
+/// The axis that X, Y or Z moves through a frame, of those in the slots.
+fn axis_through(slots: &[Option<AxisId>; 3], frame: &Frame, axis: u8) -> Option<AxisId>
+    requires { axis < 3 }
+    ensures { (h : ConditionsView) → IsComposed (model.chain_in h) frame.now
+        → result ≡ model.axis_in slots.now h axis }
+{
+    slots[usize::from(slot_of(frame, axis))]
+}
+
 /// How X, Y and Z come to the axes of a channel: through the frame of a block to its slots.
 #[derive(Drop)]
 struct Passage<'a> {
@@ -234,7 +243,7 @@ impl<'a> Passage<'a> {
         ensures { (h : ConditionsView) → IsComposed (model.chain_in h) self.now.frame
             → result ≡ model.axis_in self.now.slots.now h axis }
     {
-        self.slots[usize::from(slot_of(&self.frame, axis))]
+        axis_through(self.slots, &self.frame, axis)
     }
 
     /// Whether X, Y or Z has an axis that it moves, or is not programmed.
