@@ -219,6 +219,14 @@ fn goal_by_name(conditions: &Conditions, programmed: Programmed) -> Goal
     }
 }
 
+/// The axis that X, Y or Z moves through the frame of the block.
+fn axis_through(slots: &[Option<AxisId>; 3], frame: &Frame, axis: u8) -> Option<AxisId>
+    requires { axis < 3 }
+    ensures { (h : ConditionsView) → IsComposed (model.chain_in h) frame.now → result ≡ model.axis_in slots.now h axis }
+{
+    slots[usize::from(slot_of(frame, axis))]
+}
+
 /// How X, Y and Z come to the axes of a channel: through the frame of a block to its slots.
 #[derive(Drop)]
 struct Passage<'a> {
@@ -228,22 +236,13 @@ struct Passage<'a> {
 }
 
 impl<'a> Passage<'a> {
-    /// The axis that X, Y or Z moves.
-    fn axis(&self, axis: u8) -> Option<AxisId>
-        requires { axis < 3 }
-        ensures { (h : ConditionsView) → IsComposed (model.chain_in h) self.now.frame
-            → result ≡ model.axis_in self.now.slots.now h axis }
-    {
-        self.slots[usize::from(slot_of(&self.frame, axis))]
-    }
-
     /// Whether X, Y or Z has an axis that it moves, or is not programmed.
     fn has_axis(&self, axis: u8, programmed: Option<Programmed>) -> bool
         requires { axis < 3 }
         ensures { (h : ConditionsView) → IsComposed (model.chain_in h) self.now.frame
             → result ≡ model.has_axis self.now.slots.now h axis programmed }
     {
-        programmed.is_none() || self.axis(axis).is_some()
+        programmed.is_none() || axis_through(self.slots, &self.frame, axis).is_some()
     }
 
     /// Puts the goal of X, Y or Z among the goals, if it is programmed and moves an axis.
@@ -259,7 +258,7 @@ impl<'a> Passage<'a> {
             → goals.new ≡ model.with_goal self.now.slots.now h axis programmed goals.old }
     {
         if let Some(programmed) = programmed {
-            if let Some(moved) = self.axis(axis) {
+            if let Some(moved) = axis_through(self.slots, &self.frame, axis) {
                 let goal = goal_in(self.conditions, &self.frame, axis, programmed);
                 goals[usize::from(moved.index)] = Some(goal);
             }
@@ -276,13 +275,7 @@ pub(crate) fn axis_in(
     requires { axis < 3 }
     ensures { (h : ConditionsView) → AreInForce h conditions.now → result ≡ model.axis_in slots.now h axis }
 {
-    let frame = frame_in(conditions);
-    let passage = Passage {
-        slots,
-        conditions,
-        frame,
-    };
-    passage.axis(axis)
+    axis_through(slots, &frame_in(conditions), axis)
 }
 
 /// Whether each of X, Y and Z that is programmed has an axis that it moves.
