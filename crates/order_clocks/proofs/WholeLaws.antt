@@ -108,18 +108,9 @@ filter_alike p q (x ∷ xs) same = rw (same x (here (x == x) (among xs x) (eq-eq
     later true t on = refl
     later false t on = on
 
-among_range : (a n c : ℕ) → a ≤ c → c < a + n → among (range_with_len a n) c ≡ true
-among_range a zero c from below = absurd (omega arith)
-among_range a (suc n) c from below = elim (cases_Bool (a == c)) [
-  | inl here ↦ rw here refl
-  | inr other ↦
-      let apart : a ≡ c → ⊥ = λ same. no_truth (a == c) (eq-eqb a c same) other in
-      rw other (among_range (a + 1) n c (omega arith) (omega arith))
-]
-
 -- a channel of the machine is among the numbers
 numbered : (c : ℕ) → 1 ≤ c → c < CHANNEL_PLACES → among channel_numbers c ≡ true
-numbered c from below = among_range 1 CHANNEL_LIMIT c from (omega arith)
+numbered c from below = in_range CHANNEL_LIMIT 1 c from (omega arith)
 
 -- of ends of which none is an alarm no flag is set
 no_flags : (ends : List ChannelEnd) → list_any is_alarm_end ends ≡ false → list_any (λ t. t) (alarms_in ends) ≡ false
