@@ -1,6 +1,7 @@
 -- The machine after a clean step is its turn.
 use Rattle.std.proofs.Math.Path.{fun_ext}
-use Rattle.std.proofs.Common.{◌≡◌, ℕ, ℤ, suc, ◌&&◌, not, Bool, true, List, filter, Option, Some, None, inl, inr, refl, sym, ap, ap₂, subst, ◌∙◌}
+use Rattle.std.proofs.Common.{◌≡◌, ℕ, ℤ, suc, ◌&&◌, not, Bool, List, filter, Option, Some, None, inl, inr, refl, sym, ap, ap₂, subst, ◌∙◌}
+use Rattle.std.specs.Option.{option_map_or}
 use Rattle.std.proofs.lemmas.Bool.{cases_Bool}
 use Rattle.sync_types.specs.Boards.{OwnedBy, FreeAt, Ownership, Board, among, channel_numbers, owner_of, ownership_of}
 use Rattle.sync_types.specs.GoingOn.{Going, first_of, free_position}
@@ -10,13 +11,11 @@ use Rattle.sync_types.specs.declared.Grant.{Grant}
 use Rattle.order_clocks.specs.CourseOf.{course_of}
 use Rattle.order_clocks.specs.Happenings.{Freed, board_at, happening_at, of_going}
 use Rattle.order_clocks.proofs.CounterLaws.{closed_last}
-use Rattle.board_laws.specs.Machine.{Axis, Seat, Own, Cell, State, Effect, Clock, Span, Tenure, Place, asks, is_free, mine, ready, axes_taken, takes, taker, tenures_handed_on, span_now, next_event, cell_after_taking, settle_own, settle_axis, cell_after_release, effect, turn_by}
-use Rattle.board_laws.proofs.Basics.{no}
-use Rattle.board_laws.proofs.Parts.{axis_kept, axis_freed, settle_axis_none, settle_axis_some, cases_first, first_is, takes_parts}
-use Rattle.board_laws.proofs.Absorb.{took_free}
+use Rattle.board_laws.specs.Machine.{Axis, Seat, Own, Cell, State, Effect, Clock, Span, Tenure, Place, asks, mine, ready, axes_taken, takes, taker, tenures_handed_on, span_now, next_event, cell_after_taking, settle_own, settle_axis, cell_after_release, effect, turn_by}
+use Rattle.board_laws.proofs.Parts.{axis_kept, axis_freed, settle_axis_none, settle_axis_some, cases_first}
 use Rattle.board_laws.proofs.Actions.{owner_is}
 use Rattle.board_laws.proofs.PutBoards.{frees_mine}
-use Rattle.schedule_laws.specs.Tracked.{rows_at, rows_in, actor, takes_in, tenures_in, taken_by, tenures_at, own_at, cell_at, tracked}
+use Rattle.schedule_laws.specs.Tracked.{rows_at, rows_in, part_at, actor, takes_in, tenures_in, owner_span, taken_by, tenures_at, own_at, cell_at, tracked}
 use Rattle.schedule_laws.proofs.Steps.{Here, mid, going_none, actor_told}
 use Rattle.schedule_laws.proofs.Opened.{count_in, freed_in, frees_told}
 use Rattle.schedule_laws.proofs.GoRows.{goer}
@@ -175,19 +174,24 @@ tenures_mid b moves i w x = elim (cases_Bool ((effect (tracked b moves i) w.p w.
       ∙ sym (ap (λ (z : Cell). z.tenures) (axis_kept (tracked b moves i) w.p (effect (tracked b moves i) w.p w.step) x off) ∙ tenures_own b moves i x)
 ]
 
-free_span : (t : State) (o : Option ℕ) → is_free o ≡ true → span_now t o ≡ 0
-free_span t None on = refl
-free_span t (Some c) on = no on refl
+-- who has an axis within the step, and in which of its spans it is
+owner_mid : (b : Board) (moves : List Move) (i : ℕ) (w : Here b moves i) (x : ℕ) → owner_of ((part_at b moves i).axis x) ≡ ((mid w).axis x).owner
+owner_mid b moves i w x = ap (λ (a : Board). owner_of (a.axis x)) (w.part ∙ w.parts.board) ∙ owner_is ((mid w).axis x).owner ((mid w).axis x).position
+
+span_mid : (b : Board) (moves : List Move) (i : ℕ) (w : Here b moves i) (x : ℕ) → owner_span b moves i x ≡ span_now (mid w) ((mid w).axis x).owner
+span_mid b moves i w x = ap (λ (o : Option ℕ). option_map_or (λ d. (rows_in b moves i).past d d) o 0) (owner_mid b moves i w x) ∙ by_owner ((mid w).axis x).owner
+  where
+    by_owner : (o : Option ℕ) → option_map_or (λ d. (rows_in b moves i).past d d) o 0 ≡ span_now (mid w) o
+    by_owner None = refl
+    by_owner (Some c) = sym (count_in b moves i w c)
 
 tenures_next : (b : Board) (moves : List Move) (i : ℕ) (q : Tidy b moves i) (x : ℕ) → tenures_at b moves (suc i) x ≡ (settle_axis (mid q.here) x).tenures
 tenures_next b moves i q x =
-    ap₂ (λ (o : Option ℕ) (ts : List Tenure). taken_by b moves i o ts) (taker_told b moves i q x) (tenures_mid b moves i q.here x) ∙ elim (cases_first (taker (mid q.here) x)) [
-      | inl none ↦ ap (λ (o : Option ℕ). taken_by b moves i o ((mid q.here).axis x).tenures) none ∙ sym (ap (λ (z : Cell). z.tenures) (settle_axis_none (mid q.here) x none))
+    ap₂ (λ (o : Option ℕ) (ts : List Tenure). taken_by b moves i x o ts) (taker_told b moves i q x) (tenures_mid b moves i q.here x) ∙ elim (cases_first (taker (mid q.here) x)) [
+      | inl none ↦ ap (λ (o : Option ℕ). taken_by b moves i x o ((mid q.here).axis x).tenures) none ∙ sym (ap (λ (z : Cell). z.tenures) (settle_axis_none (mid q.here) x none))
       | inr c ↦
-          let p = takes_parts (mid q.here) x c.0 (first_is (takes (mid q.here) x) channel_numbers c.0 c.1) in
-          let free = took_free (mid q.here) c.0 x p.0 p.1 p.2 in
-          ap (λ (o : Option ℕ). taken_by b moves i o ((mid q.here).axis x).tenures) c.1
-          ∙ ap₂ (λ (n : ℕ) (m : ℕ). tenures_handed_on (Some c.0) n (place_made c.0 m) ((mid q.here).axis x).tenures) (sym (free_span (mid q.here) ((mid q.here).axis x).owner free)) (sym (count_in b moves i q.here c.0))
+          ap (λ (o : Option ℕ). taken_by b moves i x o ((mid q.here).axis x).tenures) c.1
+          ∙ ap₂ (λ (n : ℕ) (m : ℕ). tenures_handed_on (Some c.0) n (place_made c.0 m) ((mid q.here).axis x).tenures) (span_mid b moves i q.here x) (sym (count_in b moves i q.here c.0))
           ∙ sym (ap (λ (z : Cell). z.tenures) (settle_axis_some (mid q.here) x c.0 c.1) ∙ given_tenures (mid q.here) c.0 ((mid q.here).axis x))
     ]
 

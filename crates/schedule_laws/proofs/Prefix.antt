@@ -1,6 +1,7 @@
 -- A run after some steps does not depend on the steps to come.
 use Rattle.std.proofs.Math.Path.{fun_ext}
 use Rattle.std.proofs.Common.{◌≡◌, ℕ, zero, suc, ◌≤◌, ◌<◌, ◌==◌, ◌&&◌, List, [], ◌∷◌, ◌++◌, length, filter, Option, Some, None, refl, sym, ap, ap₂, ◌∙◌, arith, if◌then◌else◌}
+use Rattle.std.specs.Option.{option_map_or}
 use Rattle.sync_types.specs.Boards.{Board, among, channel_numbers, grant_in, owner_of}
 use Rattle.sync_types.specs.Events.{channels_in, pairs_of}
 use Rattle.sync_types.specs.GoingOn.{first_of, free_position}
@@ -91,19 +92,20 @@ spans_in_by h inner part c gs old = if c == h.channel then with_value_at (inner.
 abbrev spans_by : Happening → LastRows → LastRows → Board → Board → ℕ → List Grant → List Grant → (ℕ → Span) → ℕ → Span
 spans_by h inner next part new c gs hs old = if among (channels_in h.goings) c then with_value_at (next.past c c) (span_of (new.state c) hs) (spans_in_by h inner part c gs old) else spans_in_by h inner part c gs old
 
-abbrev handed_by : LastRows → Option ℕ → List Tenure → List Tenure
-handed_by inner None old = old
-handed_by inner (Some c) old = tenures_handed_on (Some c) 0 (record { channel = c; place = suc (inner.past c c) }) old
+abbrev handed_by : LastRows → Board → ℕ → Option ℕ → List Tenure → List Tenure
+handed_by inner part x None old = old
+handed_by inner part x (Some c) old =
+    tenures_handed_on (Some c) (option_map_or (λ d. inner.past d d) (owner_of (part.axis x)) 0) (record { channel = c; place = suc (inner.past c c) }) old
 
-abbrev tenures_by : Happening → LastRows → LastRows → ℕ → List Tenure → List Tenure
-tenures_by h rows inner x old =
-    handed_by inner (first_of (filter (λ c. of_going (going_of h.goings c) (λ g. among g.took x)) channel_numbers))
+abbrev tenures_by : Happening → LastRows → LastRows → Board → ℕ → List Tenure → List Tenure
+tenures_by h rows inner part x old =
+    handed_by inner part x (first_of (filter (λ c. of_going (going_of h.goings c) (λ g. among g.took x)) channel_numbers))
     (if among h.frees x then tenures_handed_on None (rows.past h.channel h.channel) (record { channel = h.channel; place = suc (rows.past h.channel h.channel) }) old else old)
 
-tenures_are : (b : Board) (ms : List Move) (i x : ℕ) → tenures_at b ms (suc i) x ≡ tenures_by (happening_at b ms i) (rows_at b ms i) (rows_in b ms i) x (tenures_at b ms i x)
+tenures_are : (b : Board) (ms : List Move) (i x : ℕ) → tenures_at b ms (suc i) x ≡ tenures_by (happening_at b ms i) (rows_at b ms i) (rows_in b ms i) (part_at b ms i) x (tenures_at b ms i x)
 tenures_are b ms i x = go (first_of (filter (takes_in b ms i x) channel_numbers)) (tenures_in b ms i (tenures_at b ms i x) x)
   where
-    go : (o : Option ℕ) (old : List Tenure) → taken_by b ms i o old ≡ handed_by (rows_in b ms i) o old
+    go : (o : Option ℕ) (old : List Tenure) → taken_by b ms i x o old ≡ handed_by (rows_in b ms i) (part_at b ms i) x o old
     go None old = refl
     go (Some c) old = refl
 
@@ -140,10 +142,11 @@ alike_next b ms ns i w h old part new =
           ∙ ap (λ (f : ℕ → Span). spans_by (happening_at b ns i) (rows_in b ns i) (rows_at b ns (suc i)) (part_at b ns i) (board_at b ns (suc i)) c (grants_at b ns i c) (grants_at b ns (suc i) c) f) (w.spans c);
       tenures = λ x.
           tenures_are b ms i x
-          ∙ ap (λ (y : Happening). tenures_by y (rows_at b ms i) (rows_in b ms i) x (tenures_at b ms i x)) h
-          ∙ ap (λ (r : LastRows). tenures_by (happening_at b ns i) r (rows_in b ms i) x (tenures_at b ms i x)) w.rows
-          ∙ ap (λ (r : LastRows). tenures_by (happening_at b ns i) (rows_at b ns i) r x (tenures_at b ms i x)) inner
-          ∙ ap (λ (ts : List Tenure). tenures_by (happening_at b ns i) (rows_at b ns i) (rows_in b ns i) x ts) (w.tenures x)
+          ∙ ap (λ (y : Happening). tenures_by y (rows_at b ms i) (rows_in b ms i) (part_at b ms i) x (tenures_at b ms i x)) h
+          ∙ ap (λ (r : LastRows). tenures_by (happening_at b ns i) r (rows_in b ms i) (part_at b ms i) x (tenures_at b ms i x)) w.rows
+          ∙ ap (λ (r : LastRows). tenures_by (happening_at b ns i) (rows_at b ns i) r (part_at b ms i) x (tenures_at b ms i x)) inner
+          ∙ ap (λ (a : Board). tenures_by (happening_at b ns i) (rows_at b ns i) (rows_in b ns i) a x (tenures_at b ms i x)) part
+          ∙ ap (λ (ts : List Tenure). tenures_by (happening_at b ns i) (rows_at b ns i) (rows_in b ns i) (part_at b ns i) x ts) (w.tenures x)
           ∙ sym (tenures_are b ns i x);
     }
 

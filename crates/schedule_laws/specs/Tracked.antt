@@ -1,5 +1,6 @@
 -- Steps. Each run, after so many of its steps, as the machine of the laws of the board has it.
 use Rattle.std.specs.Prelude.{ℕ, zero, suc, ◌==◌, ◌&&◌, Bool, List, [], ◌∷◌, ◌++◌, filter, Option, Some, None, if◌then◌else◌}
+use Rattle.std.specs.Option.{option_map_or}
 use Rattle.board_laws.specs.Machine.{In, Own, Cell, State, Clock, Span, Tenure, with_value_at, span_of, tenures_handed_on}
 use Rattle.order_clocks.specs.Counters.{LastRows, last_rows, rows_after_act}
 use Rattle.order_clocks.specs.CourseOf.{course_of}
@@ -85,13 +86,17 @@ tenures_in b moves i old x =
     then tenures_handed_on None ((rows_at b moves i).past (actor b moves i) (actor b moves i)) (record { channel = actor b moves i; place = suc ((rows_at b moves i).past (actor b moves i) (actor b moves i)) }) old
     else old
 
-abbrev pub taken_by : Board → List Move → ℕ → Option ℕ → List Tenure → List Tenure
-taken_by b moves i None old = old
-taken_by b moves i (Some c) old = tenures_handed_on (Some c) 0 (record { channel = c; place = suc ((rows_in b moves i).past c c) }) old
+-- within the step, the number of the span in which the owner of an axis is, 0 where there is none
+abbrev pub owner_span : Board → List Move → ℕ → ℕ → ℕ
+owner_span b moves i x = option_map_or (λ d. (rows_in b moves i).past d d) (owner_of ((part_at b moves i).axis x)) 0
+
+abbrev pub taken_by : Board → List Move → ℕ → ℕ → Option ℕ → List Tenure → List Tenure
+taken_by b moves i x None old = old
+taken_by b moves i x (Some c) old = tenures_handed_on (Some c) (owner_span b moves i x) (record { channel = c; place = suc ((rows_in b moves i).past c c) }) old
 
 abbrev pub tenures_at : Board → List Move → ℕ → ℕ → List Tenure
 tenures_at b moves zero x = record { owner = owner_of (b.axis x); first = None; last = None; from = 0; upto = 0 } ∷ []
-tenures_at b moves (suc i) x = taken_by b moves i (first_of (filter (takes_in b moves i x) channel_numbers)) (tenures_in b moves i (tenures_at b moves i x) x)
+tenures_at b moves (suc i) x = taken_by b moves i x (first_of (filter (takes_in b moves i x) channel_numbers)) (tenures_in b moves i (tenures_at b moves i x) x)
 
 unfoldable pub own_at : Board → List Move → ℕ → ℕ → Own
 own_at b moves i c = record {

@@ -1,6 +1,7 @@
 -- The tenures of an axis, as the machine of the laws of the board keeps them, are read from the events of a run.
 use Rattle.std.proofs.Common.{◌≡◌, ◌∙◌, ℕ, zero, suc, ◌+◌, ◌<◌, ◌≤◌, Bool, true, false, cond, ◌==◌, ◌||◌, List, [], ◌∷◌, ◌++◌, append-nil, append_assoc, length, map, filter, Option, None, Some, inl, inr, if◌then◌else◌, refl, sym, ap, ap₂, subst, arith}
 use Rattle.std.proofs.lemmas.Bool.{and_parts, cases_Bool, eqb-true, eq-eqb, ne_eqb}
+use Rattle.std.specs.Option.{option_map_or}
 use Rattle.board_laws.proofs.Parts.{first_is}
 use Rattle.board_laws.proofs.Takings.{Taken}
 use Rattle.board_laws.specs.Machine.{Place, Tenure, tenures_handed_on}
@@ -13,13 +14,13 @@ use Rattle.order_clocks.specs.CourseOf.{course_of}
 use Rattle.order_clocks.specs.Happenings.{Happening, board_at, going_of, happening_at, happening_of, of_going}
 use Rattle.schedule_laws.proofs.EventLaws.{count_act, count_go}
 use Rattle.schedule_laws.proofs.Steps.{step_at, zones_at}
-use Rattle.schedule_laws.specs.Tracked.{move_at, rows_at, rows_in, taken_by, takes_in, tenures_at, tenures_in}
+use Rattle.schedule_laws.specs.Tracked.{move_at, owner_span, part_at, rows_at, rows_in, taken_by, takes_in, tenures_at, tenures_in}
 use Rattle.speed_laws.proofs.Histories.{found_in}
 use Rattle.speed_laws.proofs.StepEvents.{of_in, once, taken}
 use Rattle.sync_types.proofs.BoardTests.{no_truth}
 use Rattle.sync_types.specs.BoardActions.{after_own_part, channels_started}
 use Rattle.sync_types.specs.BoardAlarms.{alarm_of}
-use Rattle.sync_types.specs.Boards.{Board, OwnedBy, Ownership, among, channel_numbers, is_running, owner_of}
+use Rattle.sync_types.specs.Boards.{Board, FreeAt, OwnedBy, Ownership, among, channel_numbers, is_free, is_running, owner_of}
 use Rattle.sync_types.specs.Events.{channels_in}
 use Rattle.sync_types.specs.GoingOn.{Going, after_goes, all_takings, first_of, going_at_once, going_of_start, goers_at_once}
 use Rattle.sync_types.specs.Turns.{AreOfRunning, Move, after_step, goings_in_step}
@@ -271,15 +272,32 @@ module _ (b : Board) (moves : List Move) (zs : Zones b) (run : AreOfRunning b mo
       by_test true is = sym (count_go b moves i c is)
       by_test false is = sym (closed_other (course_of b moves) i (rows_in b moves i) c c is)
 
+  -- who takes an axis takes it from nobody
+  step_free : (x c : ℕ) → takes_in b moves i x c ≡ true → owner_span b moves i x ≡ 0
+  step_free x c takes = by_going (going_of h.goings c) refl takes
+    where
+      of_nobody : (counts : ℕ → ℕ) (a : Ownership) → is_free a ≡ true → option_map_or counts (owner_of a) 0 ≡ 0
+      of_nobody counts (OwnedBy d) free = no_truth false free refl
+      of_nobody counts (FreeAt position) free = refl
+
+      by_going : (o : Option Going) → going_of h.goings c ≡ o → of_going o (λ g. among g.took x) ≡ true → owner_span b moves i x ≡ 0
+      by_going None e on = absurd cc
+      by_going (Some g) e on =
+          let w = step_at b moves i inside run in
+          let within = subst (λ (k : Happening). IsIn g k.goings) w.happens (found_in h.goings c g e).0 in
+          let t = taker_in (board_at b moves i) w.move.channel w.move.step (zones_at b moves i zs run (omega (arith, inside))) w.runs x g within on in
+          of_nobody (λ d. (rows_in b moves i).past d d) ((part_at b moves i).axis x) (ap (λ (a : Board). is_free (a.axis x)) w.part ∙ (and_parts _ _ (sym (t.took x) ∙ on)).1)
+
   step_hands : (x : ℕ) → hands x (counts_at b moves i) (tenures_at b moves i x) (in_step 0 b moves i) ≡ tenures_at b moves (suc i) x
   step_hands x =
       hands_same x (counted (counts_at b moves i) h.channel) (λ d. (rows_in b moves i).past d d) (tenures_in b moves i (tenures_at b moves i x) x) (map (going_on_of (0 + i) h.goings) h.goings) counts_in
       ∙ goings_hand x (0 + i) h.goings h.goings (λ d. (rows_in b moves i).past d d) (tenures_in b moves i (tenures_at b moves i x) x) (step_takers x)
-      ∙ same_taker (first_of (filter (takes_in b moves i x) channel_numbers)) (tenures_in b moves i (tenures_at b moves i x) x)
+      ∙ same_taker (first_of (filter (takes_in b moves i x) channel_numbers)) (tenures_in b moves i (tenures_at b moves i x) x) (first_is (takes_in b moves i x) channel_numbers)
     where
-      same_taker : (o : Option ℕ) (ts : List Tenure) → by_taker (λ d. (rows_in b moves i).past d d) o ts ≡ taken_by b moves i o ts
-      same_taker None ts = refl
-      same_taker (Some c) ts = refl
+      same_taker : (o : Option ℕ) (ts : List Tenure) → ((c : ℕ) → o ≡ Some c → takes_in b moves i x c ≡ true) → by_taker (λ d. (rows_in b moves i).past d d) o ts ≡ taken_by b moves i x o ts
+      same_taker None ts takes = refl
+      same_taker (Some c) ts takes =
+          ap (λ (n : ℕ). tenures_handed_on (Some c) n (record { channel = c; place = suc ((rows_in b moves i).past c c) }) ts) (sym (step_free x c (takes c refl)))
 
 record ReadUpto (b : Board) (moves : List Move) (i : ℕ) : Type 0 where
   counts : (c : ℕ) → counts_after (λ d. 0) (upto 0 b moves i) c ≡ counts_at b moves i c
