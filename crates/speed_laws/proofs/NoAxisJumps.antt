@@ -23,7 +23,7 @@ use Rattle.speed_laws.proofs.Standing.{nothing_done}
 use Rattle.speed_laws.proofs.Positions.{one_under}
 use Rattle.speed_laws.proofs.StepEvents.{once}
 use Rattle.speed_laws.proofs.StepSpots.{HasEvent, begins_anew, event_begins, event_or_rests, event_stood, goes_event, stage_next, told_by, zones_then}
-use Rattle.speed_laws.specs.DoingLaws.{AreSound, TellsWhatItLetsGo, TellsWhereAxesStand, stage_by}
+use Rattle.speed_laws.specs.DoingLaws.{AreSound, TellsWhereAxesStand, TellsWhereItsAxesStand, stage_by}
 use Rattle.speed_laws.specs.Doings.{Doings, stands_after, stands_before}
 use Rattle.speed_laws.specs.Places.{IsAtEnd}
 use Rattle.speed_laws.specs.Safety.{NoAxisJumps, owner_now, position_now, fraction_of}
@@ -54,7 +54,7 @@ owned_by (FreeAt position) c is = absurd cc
 
 module _ (job : JobView) (doings : Doings) (sound : IsSoundJob job) (are : AreSound job doings) (state : State) (well : WellSpotted job doings (start_sound job sound) state) (p : ℕ)
     (on : is_running ((stage_in job doings state).board.state p) ≡ true) (end : IsAtEnd (items_now job doings state p) (spot_now job doings state p).place (spot_now job doings state p).point)
-    (lets_go : TellsWhatItLetsGo doings (stage_in job doings state) p) where
+    (places : TellsWhereItsAxesStand doings (stage_in job doings state) p) where
   abbrev stage : Stage
   stage = stage_in job doings state
 
@@ -136,7 +136,7 @@ module _ (job : JobView) (doings : Doings) (sound : IsSoundJob job) (are : AreSo
       let_go : LetsGo board p step axis → IsSame (was axis p) (whole (position_or_zero (position_of step.at axis)))
       let_go go =
           let there : position_or_zero (position_of step.at axis) ≡ stands_after job doings p (stage.grants p) axis =
-          told_there (position_of step.at axis) _ (stands_after job doings p (stage.grants p) axis) (lets_go axis (below go) go.owner go.listed) (tells.tells axis) in
+          told_there (position_of step.at axis) _ (stands_after job doings p (stage.grants p) axis) (places axis (below go) go.owner) (tells.tells axis) in
           subst (λ (n : ℤ). IsSame (was axis p) (whole n)) (sym there)
           (sym (one_under ((spot_now job doings state p).point.top axis))
           ∙ event_stood job doings (start_sound job sound) state well p on end p (inl (eq-eqb p p refl)) axis)
@@ -233,10 +233,10 @@ module _ (job : JobView) (doings : Doings) (sound : IsSoundJob job) (are : AreSo
 
 -- where a channel acts, whatever it waits for, hands over or takes then, and whoever goes on, no axis jumps
 pub no_axis_jumps : (job : JobView) (doings : Doings) → IsSoundJob job → AreSound job doings
-    → ((cs : List ℕ) (c : ℕ) → IsRunOf doings.script (start_of job) cs → is_running ((stage_by job doings cs).board.state c) ≡ true → TellsWhatItLetsGo doings (stage_by job doings cs) c)
+    → ((cs : List ℕ) (c : ℕ) → IsRunOf doings.script (start_of job) cs → is_running ((stage_by job doings cs).board.state c) ≡ true → TellsWhereItsAxesStand doings (stage_by job doings cs) c)
     → NoAxisJumps job doings
 unfolding IsLawfulStep after_small_step runs
-no_axis_jumps job doings sound are lets_go steps p lawful act axis =
+no_axis_jumps job doings sound are places steps p lawful act axis =
     let state = after_small_steps job doings opening steps in
     let well = well_spotted job doings (start_sound job sound) opening steps (opening_spotted job doings (start_sound job sound)) lawful in
-    stays_put job doings sound are state well p act.0 act.1 (lets_go state.run p well.run act.0) axis
+    stays_put job doings sound are state well p act.0 act.1 (places state.run p well.run act.0) axis

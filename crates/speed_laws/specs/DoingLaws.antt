@@ -10,8 +10,7 @@ use Rattle.path_geometry.specs.Motions.{axes_of}
 use Rattle.schedule_laws.specs.Schedules.{IsRunOf}
 use Rattle.speed_laws.specs.Doings.{Doings, on_after, stands_before, stands_after}
 use Rattle.speed_laws.specs.JoinedItems.{AllJoin}
-use Rattle.sync_types.specs.BoardActions.{axes_to_free}
-use Rattle.sync_types.specs.Boards.{among, is_running, owner_of}
+use Rattle.sync_types.specs.Boards.{is_running, owner_of}
 use Rattle.sync_types.specs.Items.{movement_of}
 use Rattle.sync_types.specs.Runs.{Stage, first_stage, stage_after}
 use Rattle.sync_types.specs.declared.Grant.{Grant}
@@ -35,9 +34,9 @@ pub record MovesItsAxes (job : JobView) (doings : Doings) (stage : Stage) (c : �
   pub joined : AllJoin (stands_before job doings c (stage.grants c)) (doings.items c (stage.grants c))
   pub owned : All (λ item. All (λ e. owner_of (stage.board.axis e.0) ≡ Some c) (axes_of (movement_of item))) (doings.items c (stage.grants c))
 
--- the step of a channel tells where each axis of its own stands that it lets go
-abbrev pub TellsWhatItLetsGo : Doings → Stage → ℕ → Type 0
-TellsWhatItLetsGo doings stage c = (axis : ℕ) → axis < AXIS_LIMIT → owner_of (stage.board.axis axis) ≡ Some c → among (axes_to_free (doings.script c (stage.grants c)).action) axis ≡ true
+-- the step of a channel tells where each axis of its own stands
+abbrev pub TellsWhereItsAxesStand : Doings → Stage → ℕ → Type 0
+TellsWhereItsAxesStand doings stage c = (axis : ℕ) → axis < AXIS_LIMIT → owner_of (stage.board.axis axis) ≡ Some c
     → is_some (position_of (doings.script c (stage.grants c)).at axis) ≡ true
 
 -- the step of a channel has those zones on that its items left on, of the zones that it holds
@@ -50,8 +49,8 @@ pub record AreSound (job : JobView) (doings : Doings) : Type 0 where
   pub tell : TellWhereAxesStand job doings
   pub move : (cs : List ℕ) (c : ℕ) → IsRunOf doings.script (start_of job) cs → is_running ((stage_by job doings cs).board.state c) ≡ true → MovesItsAxes job doings (stage_by job doings cs) c
 
--- And their steps tell the board where the axes stand that they let go, and which of the zones that they hold are on.
+-- And their steps tell the board where all their axes stand, and which of the zones that they hold are on.
 pub record TellTheBoard (job : JobView) (doings : Doings) : Type 0 where
-  pub lets_go : (cs : List ℕ) (c : ℕ) → IsRunOf doings.script (start_of job) cs → is_running ((stage_by job doings cs).board.state c) ≡ true → TellsWhatItLetsGo doings (stage_by job doings cs) c
+  pub places : (cs : List ℕ) (c : ℕ) → IsRunOf doings.script (start_of job) cs → is_running ((stage_by job doings cs).board.state c) ≡ true → TellsWhereItsAxesStand doings (stage_by job doings cs) c
   pub zones : (cs : List ℕ) (c : ℕ) (zone : ZoneLine) → IsRunOf doings.script (start_of job) cs → is_running ((stage_by job doings cs).board.state c) ≡ true
       → Contains job.zones zone → TellsWhichZonesAreOn job doings (stage_by job doings cs) c zone

@@ -33,7 +33,7 @@ use Rattle.schedule_laws.specs.Schedules.{IsRunOf}
 use Rattle.speed_laws.proofs.KnownZones.{grant_tells}
 use Rattle.speed_laws.proofs.Positions.{left_at-cons}
 use Rattle.speed_laws.proofs.Runs.{Follow, All-place, all_join, left_at_same}
-use Rattle.speed_laws.specs.DoingLaws.{AreSound, MovesItsAxes, TellTheBoard, TellsWhatItLetsGo, TellsWhereAxesStand, TellsWhichZonesAreOn, stage_by}
+use Rattle.speed_laws.specs.DoingLaws.{AreSound, MovesItsAxes, TellTheBoard, TellsWhereAxesStand, TellsWhereItsAxesStand, TellsWhichZonesAreOn, stage_by}
 use Rattle.speed_laws.specs.Doings.{on_after, stands_after, stands_before, turned}
 use Rattle.speed_laws.specs.JoinedItems.{AllJoin}
 use Rattle.sync_types.proofs.BoardTests.{no_truth}
@@ -197,8 +197,8 @@ module _ (job : JobView) (sound : IsSoundJob job) (cs : List ℕ) (run : IsRunOf
         (axes_of (movement_of item)) among)
         (items_by_grants grants) moves_among
 
-    lets_go : (x : ℕ) → x < AXIS_LIMIT → owner_of (b.axis x) ≡ Some c → is_some (position_of (script_of job c grants).at x) ≡ true
-    lets_go x within own =
+    told_there : (x : ℕ) → x < AXIS_LIMIT → owner_of (b.axis x) ≡ Some c → is_some (position_of (script_of job c grants).at x) ≡ true
+    told_there x within own =
         let on : has grant.axes x ≡ true = owns_its_grant job cs c grant (sound, run) runs x within ∙ rw own (eq-eqb c c refl) in
         ap (λ (row : List (Option ℤ)). is_some (position_of row x)) (step_places job c made grant)
         ∙ ap (λ (o : Option ℤ). is_some o) (told_at grant.axes (left_at (items_by_grants grants) (laws.stands_before job c grants)) x within on)
@@ -243,11 +243,11 @@ module _ (job : JobView) (sound : IsSoundJob job) (cs : List ℕ) (run : IsRunOf
       subst (λ (gs : List Grant). has (script_of job c gs).on zone.zone ≡ on_after zone (b.is_on zone.zone) (items_by_grants gs)) (sym got)
       (switched_on made grant got runs zone (All-contains (IsSoundZone job) job.zones zone sound.zones line) held)
 
-  -- the step tells where each axis stands that the channel lets go
-  pub letting_told : is_running (b.state c) ≡ true → TellsWhatItLetsGo (doings_of job) stage c
-  letting_told running x within own named =
+  -- the step tells where each axis of the channel stands
+  pub places_told : is_running (b.state c) ≡ true → TellsWhereItsAxesStand (doings_of job) stage c
+  places_told running x within own =
       let (made, grant, got, runs) = has_last running in
-      subst (λ (gs : List Grant). is_some (position_of (script_of job c gs).at x) ≡ true) (sym got) (lets_go made grant got runs x within own)
+      subst (λ (gs : List Grant). is_some (position_of (script_of job c gs).at x) ≡ true) (sym got) (told_there made grant got runs x within own)
 
 -- ---- in every run
 
@@ -262,9 +262,9 @@ sound_doings job sound = record {
   move = λ cs c run running. moves_its_axes job sound cs run c running;
 }
 
--- and their steps tell the board what they let go, and which of their zones are on
+-- and their steps tell the board where all their axes stand, and which of their zones are on
 pub tell_the_board : (job : JobView) → IsSoundJob job → TellTheBoard job (doings_of job)
 tell_the_board job sound = record {
-  lets_go = λ cs c run running. letting_told job sound cs run c running;
+  places = λ cs c run running. places_told job sound cs run c running;
   zones = λ cs c zone run running line. switches_told job sound cs run c running zone line;
 }

@@ -23,8 +23,8 @@ pub fn quiet_runs_are_reported()
 {}
 
 /// A law: in every run of an accepted job, however its channels take turns, a channel that runs knows where its axes
-/// stand, and its motions join and have only axes that it owns; and its step tells the board where the axes stand that
-/// it lets go, and which of the zones that it holds are on. So the laws `zones_never_meet`, `axes_never_jump` and
+/// stand, and its motions join and have only axes that it owns; and its step tells the board where all its axes stand,
+/// and which of the zones that it holds are on. So the laws `zones_never_meet`, `axes_never_jump` and
 /// `channels_can_act` of `speed_laws` hold of it.
 pub fn jobs_do_as_laws_ask()
     ensures moves { (job : JobView) → IsSoundJob job → AreSound job (doings_of job) }
