@@ -5,10 +5,11 @@ use Rattle.std.specs.List.{flat_map}
 use Rattle.std.specs.Option.{option_map_or}
 use Rattle.std.proofs.lemmas.Bool.{cases_Bool, eqb-true, eq-eqb, or_cases}
 use Rattle.std.proofs.lemmas.List.{drop-drop}
-use Rattle.std.proofs.lemmas.List.Elements.{All-head, All-tail}
+use Rattle.std.proofs.lemmas.List.Elements.{All-cons, All-head, All-nil, All-tail}
 use Rattle.axis_sets.specs.Positions.{stands}
 use Rattle.axis_sets.specs.Sets.{has}
 use Rattle.board_laws.proofs.Zones.{zones_first}
+use Rattle.board_laws.specs.Zones.{Zones}
 use Rattle.job_types.specs.Job.{JobView}
 use Rattle.job_types.specs.Zones.{has_axis}
 use Rattle.job_types.specs.declared.job.ZoneLine.{ZoneLine}
@@ -32,7 +33,7 @@ use Rattle.zone_stretches.proofs.StretchLaws.{each_zone_time}
 use Rattle.zone_stretches.specs.Occurrences.{Occurrence, occurrences_from, occurrences_of}
 use Rattle.zone_stretches.specs.SoundStretches.{AreInOrder, IsAfter, IsZoneOf, StretchesAscend}
 use Rattle.zone_stretches.specs.Spans.{Beginning, Span, beginning_after, entry_of_beginning, first_beginning, span_to_end, span_until, spans_from, spans_of}
-use Rattle.zone_stretches.specs.Stretches.{StretchView, stretch_between, stretch_of_span, stretches_held_by, stretches_in_tenure, stretches_of_zone}
+use Rattle.zone_stretches.specs.Stretches.{StretchView, spans_between, spans_in, spans_until, stretch_between, stretch_of_span, stretches_held_by, stretches_in_tenure, stretches_of_zone}
 use Rattle.zone_stretches.specs.Tenures.{Tenure, carry, changes_hands, counted, first_tenure, tenure_after, tenure_until, tenures_from, tenures_of}
 
 -- ---- parts of lists
@@ -61,6 +62,12 @@ map-append : {A C : Type 0} (f : A → C) (xs ys : List A) → map f (xs ++ ys) 
 map-append f [] ys = refl
 map-append f (x ∷ xs) ys = ap (λ (rest : List _). f x ∷ rest) (map-append f xs ys)
 
+-- where the last span ends
+until_end : (last : Option EventId) (spans : List Span) (span : Span) → spans_until last (spans ++ span ∷ []) ≡ spans ++ record span { last = last } ∷ []
+until_end last [] span = refl
+until_end last (one ∷ []) span = refl
+until_end last (one ∷ next ∷ spans) span = ap (λ (rest : List Span). one ∷ rest) (until_end last (next ∷ spans) span)
+
 turned : (m n : ℕ) → (n == m) ≡ false → (m == n) ≡ false
 turned m n off = elim (cases_Bool (m == n)) [ inl on ↦ no_truth (n == m) (eq-eqb n m (sym (eqb-true m n on))) off | inr same ↦ same ]
 
@@ -73,6 +80,10 @@ freed_beginning o = record { kind = Free; line = unwrap_or o.line 0; at = stands
 -- the time of each channel after an event
 abbrev begun : (ℕ → Beginning) → Occurrence → ℕ → Beginning
 begun times o c = if c == o.channel then beginning_after (times c) o else times c
+
+-- the last span of a tenure ends with the tenure by itself
+abbrev pub EndsItself : (ℕ → List Span) → Tenure → Type 0
+EndsItself spans t = (c : ℕ) → t.owner ≡ Some c → spans_in (spans c) t ≡ spans_between (spans c) t.from t.upto
 
 module _ (job : JobView) (zone : ZoneLine) (items : List (List Item)) where
   -- the stretch that is current, as one event ends it, or as it lasts
@@ -134,18 +145,30 @@ module _ (job : JobView) (zone : ZoneLine) (items : List (List Item)) where
       by_owner (Some c) is =
           let left : drop (counts c - t.from) (drop t.from (spans c)) ≡ span_to_end (times c) ∷ [] = drop_rest t.from (counts c) (spans c) (current.begun_at c is) ∙ at c in
           let whole : drop t.from (spans c) ≡ take (counts c - t.from) (drop t.from (spans c)) ++ span_to_end (times c) ∷ [] = take_last (counts c - t.from) (drop t.from (spans c)) (span_to_end (times c)) left in
-          rw current.lasts (ap (map (stretch_of_span job zone c)) whole ∙ map-append (stretch_of_span job zone c) (take (counts c - t.from) (drop t.from (spans c))) (span_to_end (times c) ∷ []))
+          rw (current.lasts, current.unended) (ap (map (stretch_of_span job zone c)) (ap (spans_until None) whole ∙ until_end None (take (counts c - t.from) (drop t.from (spans c))) (span_to_end (times c))) ∙ map-append (stretch_of_span job zone c) (take (counts c - t.from) (drop t.from (spans c))) (span_to_end (times c) ∷ []))
 
   -- the span that an event of its channel ends
+  span_last : (spans : ℕ → List Span) (counts : ℕ → ℕ) (times : ℕ → Beginning) (from c : ℕ) (o : Occurrence) (os : List Occurrence) → AreAt spans counts times (o ∷ os) → from ≤ counts c → o.channel ≡ c
+      → take (suc (counts c) - from) (drop from (spans c)) ≡ take (counts c - from) (drop from (spans c)) ++ span_until items (times c) o.name ∷ []
+  span_last spans counts times from c o os at up same =
+      let more : suc (counts c) - from ≡ suc (counts c - from) = omega arith in
+      let left : drop (counts c - from) (drop from (spans c)) ≡ span_until items (times c) o.name ∷ spans_from items (beginning_after (times c) o) (filter (λ p. p.channel == c) os) =
+      drop_rest from (counts c) (spans c) up ∙ (at c ∙ spans_here (times c) c o os same) in
+      rw more (take_next (counts c - from) (drop from (spans c)) (spans_from items (beginning_after (times c) o) (filter (λ p. p.channel == c) os)) (span_until items (times c) o.name) left)
+
   span_ends : (spans : ℕ → List Span) (counts : ℕ → ℕ) (times : ℕ → Beginning) (from c : ℕ) (o : Occurrence) (os : List Occurrence) → AreAt spans counts times (o ∷ os) → from ≤ counts c → o.channel ≡ c
       → map (stretch_of_span job zone c) (take (suc (counts c) - from) (drop from (spans c)))
       ≡ map (stretch_of_span job zone c) (take (counts c - from) (drop from (spans c))) ++ stretch_of_span job zone c (span_until items (times c) o.name) ∷ []
   span_ends spans counts times from c o os at up same =
-      let more : suc (counts c) - from ≡ suc (counts c - from) = omega arith in
-      let left : drop (counts c - from) (drop from (spans c)) ≡ span_until items (times c) o.name ∷ spans_from items (beginning_after (times c) o) (filter (λ p. p.channel == c) os) =
-      drop_rest from (counts c) (spans c) up ∙ (at c ∙ spans_here (times c) c o os same) in
-      rw more (ap (map (stretch_of_span job zone c)) (take_next (counts c - from) (drop from (spans c)) (spans_from items (beginning_after (times c) o) (filter (λ p. p.channel == c) os)) (span_until items (times c) o.name) left)
-      ∙ map-append (stretch_of_span job zone c) (take (counts c - from) (drop from (spans c))) (span_until items (times c) o.name ∷ []))
+      ap (map (stretch_of_span job zone c)) (span_last spans counts times from c o os at up same)
+      ∙ map-append (stretch_of_span job zone c) (take (counts c - from) (drop from (spans c))) (span_until items (times c) o.name ∷ [])
+
+  -- it ends with the tenure too
+  span_until_is : (spans : ℕ → List Span) (counts : ℕ → ℕ) (times : ℕ → Beginning) (from c : ℕ) (o : Occurrence) (os : List Occurrence) → AreAt spans counts times (o ∷ os) → from ≤ counts c → o.channel ≡ c
+      → spans_until (Some o.name) (take (suc (counts c) - from) (drop from (spans c))) ≡ take (suc (counts c) - from) (drop from (spans c))
+  span_until_is spans counts times from c o os at up same =
+      let last = span_last spans counts times from c o os at up same in
+      ap (spans_until (Some o.name)) last ∙ until_end (Some o.name) (take (counts c - from) (drop from (spans c))) (span_until items (times c) o.name) ∙ sym last
 
   until_is : (spans : ℕ → List Span) (counts : ℕ → ℕ) (times : ℕ → Beginning) (t : Tenure) (o : Occurrence) (os : List Occurrence) → AreAt spans counts times (o ∷ os) → IsCurrent counts t
       → ((c : ℕ) → t.owner ≡ Some c → o.channel ≡ c)
@@ -155,7 +178,9 @@ module _ (job : JobView) (zone : ZoneLine) (items : List (List Item)) where
       by_owner : (p : Option ℕ) → t.owner ≡ p
           → stretches_held_by job zone spans (record t { upto = Some (option_map_or counts p 0); last = Some o.name }) p ≡ past spans counts t p ++ ended times t.begins p o.name ∷ []
       by_owner None is = refl
-      by_owner (Some c) is = span_ends spans counts times t.from c o os at (current.begun_at c is) (own c is)
+      by_owner (Some c) is =
+          ap (map (stretch_of_span job zone c)) (span_until_is spans counts times t.from c o os at (current.begun_at c is) (own c is))
+          ∙ span_ends spans counts times t.from c o os at (current.begun_at c is) (own c is)
 
   stay_is : (spans : ℕ → List Span) (counts : ℕ → ℕ) (times : ℕ → Beginning) (t : Tenure) (o : Occurrence) (os : List Occurrence) → AreAt spans counts times (o ∷ os) → IsCurrent counts t
       → past spans (counted counts o.channel) t t.owner ≡ past spans counts t t.owner ++ cond (is_this t.owner o.channel) (ended times t.begins t.owner o.name ∷ []) []
@@ -235,6 +260,43 @@ module _ (job : JobView) (zone : ZoneLine) (items : List (List Item)) where
               ≡ past spans counts t t.owner ++ cond d (ended times t.begins t.owner o.name ∷ line (begun times o) t.begins t.owner os) (line (begun times o) t.begins t.owner os)
           by_channel true = append_assoc (past spans counts t t.owner) (ended times t.begins t.owner o.name ∷ []) (line (begun times o) t.begins t.owner os)
           by_channel false = append_assoc (past spans counts t t.owner) [] (line (begun times o) t.begins t.owner os)
+
+  -- ---- a channel's span ends where it lets the zone go
+
+  last_itself : (spans : ℕ → List Span) (counts : ℕ → ℕ) (times : ℕ → Beginning) (t : Tenure) → AreAt spans counts times [] → IsCurrent counts t → EndsItself spans t
+  last_itself spans counts times t at current c is =
+      let left : drop (counts c - t.from) (drop t.from (spans c)) ≡ span_to_end (times c) ∷ [] = drop_rest t.from (counts c) (spans c) (current.begun_at c is) ∙ at c in
+      let whole : drop t.from (spans c) ≡ take (counts c - t.from) (drop t.from (spans c)) ++ span_to_end (times c) ∷ [] = take_last (counts c - t.from) (drop t.from (spans c)) (span_to_end (times c)) left in
+      rw (current.lasts, current.unended) (ap (spans_until None) whole ∙ until_end None (take (counts c - t.from) (drop t.from (spans c))) (span_to_end (times c)) ∙ sym whole)
+
+  until_itself : (spans : ℕ → List Span) (counts : ℕ → ℕ) (times : ℕ → Beginning) (t : Tenure) (o : Occurrence) (os : List Occurrence) → AreAt spans counts times (o ∷ os) → IsCurrent counts t
+      → ((c : ℕ) → t.owner ≡ Some c → o.channel ≡ c) → EndsItself spans (tenure_until counts t o)
+  until_itself spans counts times t o os at current own c is = by_owner t.owner is
+    where
+      by_owner : (p : Option ℕ) → p ≡ Some c
+          → spans_until (Some o.name) (take (suc (option_map_or counts p 0) - t.from) (drop t.from (spans c))) ≡ take (suc (option_map_or counts p 0) - t.from) (drop t.from (spans c))
+      by_owner None none = absurd cc
+      by_owner (Some d) some =
+          let same : c ≡ d = cc in
+          subst (λ (e : ℕ). spans_until (Some o.name) (take (suc (counts e) - t.from) (drop t.from (spans c))) ≡ take (suc (counts e) - t.from) (drop t.from (spans c))) same
+          (span_until_is spans counts times t.from c o os at (current.begun_at c is) (own c is))
+
+  all_itself : (spans : ℕ → List Span) (os : List Occurrence) (counts : ℕ → ℕ) (times : ℕ → Beginning) (t : Tenure) → AreAt spans counts times os → IsCurrent counts t → HandsAre zone t.owner os
+      → All (EndsItself spans) (tenures_from zone counts t os)
+  all_itself spans [] counts times t at current hands = All-cons (EndsItself spans) t [] (last_itself spans counts times t at current) (All-nil (EndsItself spans))
+  all_itself spans (o ∷ os) counts times t at current hands =
+      by_test (changes_hands zone o) refl
+      (all_itself spans os (counted counts o.channel) (begun times o) (tenure_after zone counts o) (next_at spans counts times o os at) (after_current counts o))
+      (all_itself spans os (counted counts o.channel) (begun times o) t (next_at spans counts times o os at) (stays_current counts t o.channel current))
+    where
+      by_test : (b : Bool) → changes_hands zone o ≡ b
+          → (HandsAre zone (tenure_after zone counts o).owner os → All (EndsItself spans) (tenures_from zone (counted counts o.channel) (tenure_after zone counts o) os))
+          → (HandsAre zone t.owner os → All (EndsItself spans) (tenures_from zone (counted counts o.channel) t os))
+          → All (EndsItself spans) (cond b (tenure_until counts t o ∷ tenures_from zone (counted counts o.channel) (tenure_after zone counts o) os) (tenures_from zone (counted counts o.channel) t os))
+      by_test true changes changed same =
+          All-cons (EndsItself spans) (tenure_until counts t o) (tenures_from zone (counted counts o.channel) (tenure_after zone counts o) os)
+          (until_itself spans counts times t o os at current (change_own t.owner o changes hands.0 hands.2)) (changed (rw changes at hands.3))
+      by_test false changes changed same = same (rw changes at hands.3)
 
   -- ---- the line is in order
 
@@ -512,6 +574,16 @@ zone_ascends job start run zone comes is =
     begins_first : (p : Option ℕ) → first_now job zone run.items (first_board start) (moves_in run.entries) (first_beginning job) (first_tenure job zone).begins p ≡ None
     begins_first None = refl
     begins_first (Some c) = refl
+
+-- In a run each tenure ends with the event with which the last of its owner's spans ends anyway: only a channel itself lets go of what it holds.
+pub spans_end_with_tenures : (job : JobView) (start : StartView) (items : List (List Item)) (moves : List Move) (zone : ZoneLine) → Zones (first_board start) → IsZoneOf start zone
+    → All (EndsItself (spans_of job items (occurrences_of (first_board start) moves))) (tenures_of job (occurrences_of (first_board start) moves) zone)
+unfolding spans_of tenures_of occurrences_of
+spans_end_with_tenures job start items moves zone zones is =
+    let os : List Occurrence = occurrences_from (first_board start) 0 moves in
+    let hands : HandsAre zone zone.holder os = subst (λ (p : Option ℕ). HandsAre zone p os) is.holder (run_hands moves (first_board start) zone 0 zones is.axes) in
+    all_itself job zone items (spans_of job items os) os (λ c. 0) (first_beginning job) (first_tenure job zone) (λ c. refl)
+    (record { lasts = refl; unended = refl; begun_at = λ c owns. omega arith }) hands
 
 pub stretches_ascend : (job : JobView) (start : StartView) (run : RunView) → StretchesAscend job start run
 stretches_ascend job start run zones comes =

@@ -24,7 +24,7 @@ use Rattle.zone_stretches.specs.Occurrences.{Occurrence, going_on_of, occurrence
 use Rattle.zone_stretches.specs.Overlaps.{Order, Pair, ZoneTime, are_compared, box_pairs, compared_pairs, may_overlap, pairs_by_group, pairs_of_zones, stretch_pairs, zone_times}
 use Rattle.zone_stretches.specs.SoundStretches.{BOX_LIMIT, BoxesAreFew, PairsAreFew, box_count}
 use Rattle.zone_stretches.specs.Spans.{Beginning, Span, first_beginning, spans_of}
-use Rattle.zone_stretches.specs.Stretches.{StretchView, StretchesView, all_stretches, free_stretch, spans_between, stretch_between, stretch_of_span, stretches_held_by, stretches_in_tenure, stretches_of_zone}
+use Rattle.zone_stretches.specs.Stretches.{StretchView, StretchesView, all_stretches, free_stretch, spans_between, spans_in, spans_until, stretch_between, stretch_of_span, stretches_held_by, stretches_in_tenure, stretches_of_zone}
 use Rattle.zone_stretches.specs.Tenures.{Tenure, first_tenure, tenures_of}
 use Rattle.zone_stretches.specs.ZoneBoxes.{boxes_of, closed, closed_before, next_open, seen, shown_box, stand_after, walk, Opened, Shut, Waiting, Moving}
 use Rattle.zone_stretches.specs.declared.sights.Sight.{Sight}
@@ -92,13 +92,20 @@ between_alike spans from None = sym (drop-map (λ span. length span.items) from 
 between_alike spans from (Some upto) =
     sym (take-map (λ span. length span.items) (suc upto - from) (drop from spans)) ∙ ap (take (suc upto - from)) (sym (drop-map (λ span. length span.items) from spans))
 
+-- where a span ends does not change what is done in it
+until_alike : (last : Option EventId) (spans : List Span) → map (λ span. length span.items) (spans_until last spans) ≡ map (λ span. length span.items) spans
+until_alike last [] = refl
+until_alike last (span ∷ []) = refl
+until_alike last (span ∷ next ∷ spans) = ap (λ (ws : List ℕ). length span.items ∷ ws) (until_alike last (next ∷ spans))
+
 held_few : (job : JobView) (zone : ZoneLine) (spans : ℕ → List Span) (t : Tenure) (owner : Option ℕ)
     → box_count (stretches_held_by job zone spans t owner) ≤ tenure_cost (λ c. map (λ span. length span.items) (spans c)) t owner
 held_few job zone spans t None =
     omega (arith, sum_by-cons (λ stretch. length stretch.boxes) (free_stretch job zone t) [], stretch_few job zone None t.begins t.last (free_stretch job zone t).entry [])
 held_few job zone spans t (Some c) =
-    subst (λ (ws : List ℕ). box_count (map (stretch_of_span job zone c) (spans_between (spans c) t.from t.upto)) ≤ cost ws) (between_alike (spans c) t.from t.upto)
-    (spans_few job zone c (spans_between (spans c) t.from t.upto))
+    subst (λ (ws : List ℕ). box_count (map (stretch_of_span job zone c) (spans_in (spans c) t)) ≤ cost ws)
+    (until_alike t.last (spans_between (spans c) t.from t.upto) ∙ between_alike (spans c) t.from t.upto)
+    (spans_few job zone c (spans_in (spans c) t))
 
 all_held_few : (job : JobView) (zone : ZoneLine) (spans : ℕ → List Span) (ts : List Tenure)
     → box_count (flat_map (stretches_in_tenure job zone spans) ts) ≤ cost_of_all (λ c. map (λ span. length span.items) (spans c)) ts

@@ -5,11 +5,11 @@ use Rattle.std.specs.Option.{option_map}
 use Rattle.std.proofs.lemmas.List.Elements.{All-nil, All-cons, All-append, All-map, All-weaker}
 use Rattle.job_types.specs.Job.{JobView}
 use Rattle.job_types.specs.declared.job.ZoneLine.{ZoneLine}
-use Rattle.zone_stretches.proofs.StretchLaws.{each_stretch, each_time}
+use Rattle.zone_stretches.proofs.StretchLaws.{HoldsOf, each_stretch, each_time}
 use Rattle.zone_stretches.specs.Occurrences.{Occurrence, occurrences_of}
 use Rattle.zone_stretches.specs.SoundStretches.{IsCoverBy, HasCover, BoxesHaveCovers}
 use Rattle.zone_stretches.specs.Spans.{Beginning, beginning_after, entry_of_beginning, first_beginning, span_to_end, span_until, spans_from, spans_of}
-use Rattle.zone_stretches.specs.Stretches.{stretch_between, stretch_of_span, free_stretch, stretches_of_zone}
+use Rattle.zone_stretches.specs.Stretches.{stretch_between, free_stretch, stretches_of_zone}
 use Rattle.zone_stretches.specs.Tenures.{tenures_of}
 use Rattle.zone_stretches.specs.ZoneBoxes.{IsFit, stand_after, sight_of, seen, PlaceBox, Opened, Shut, Waiting, Moving, closed, closed_before, next_open, walk, boxes_of, cover_during, shown_box}
 use Rattle.zone_stretches.specs.declared.sights.Sight.{Sight}
@@ -170,8 +170,11 @@ zone_covered : (job : JobView) (run : RunView) (occurrences : List Occurrence) (
     → All (λ stretch. All (HasCover job run zone stretch) stretch.boxes) (stretches_of_zone job run.items occurrences zone)
 zone_covered job run occurrences zone =
     each_stretch job run.items occurrences zone (λ stretch. All (HasCover job run zone stretch) stretch.boxes)
-    (λ c. All-weaker (λ span. HasItems run.items span.entry span.items) (λ span. All (HasCover job run zone (stretch_of_span job zone c span)) (stretch_of_span job zone c span).boxes)
-    (λ span has. stretch_covered job run zone (Some c) span.begins span.last span.entry span.items has)
+    (λ c. All-weaker (λ span. HasItems run.items span.entry span.items) (HoldsOf job zone (λ stretch. All (HasCover job run zone stretch) stretch.boxes) c)
+    (λ span has. (
+      stretch_covered job run zone (Some c) span.begins span.last span.entry span.items has,
+      λ t free. stretch_covered job run zone (Some c) span.begins t.last span.entry span.items has,
+    ))
     (spans_of job run.items occurrences c) (spans_have_items job run.items occurrences c))
     (all_alike (λ t. All (HasCover job run zone (free_stretch job zone t)) (free_stretch job zone t).boxes)
     (λ t. stretch_covered job run zone None t.begins t.last (entry_of_beginning t.begins) [] (inl refl)) (tenures_of job occurrences zone))

@@ -15,11 +15,11 @@ use Rattle.order_clocks.proofs.CounterLaws.{in_filter}
 use Rattle.order_clocks.proofs.DepartLaws.{takings_take}
 use Rattle.order_clocks.proofs.GroupLaws.{chained_from, chained_to}
 use Rattle.order_clocks.proofs.MemberLaws.{in_append}
-use Rattle.zone_stretches.proofs.StretchLaws.{each_stretch, each_time}
+use Rattle.zone_stretches.proofs.StretchLaws.{HoldsOf, each_stretch, each_time}
 use Rattle.zone_stretches.specs.Occurrences.{Occurrence, act_of, going_on_of, lowest_of_event, occurrences_in, occurrences_from, occurrences_of}
 use Rattle.zone_stretches.specs.SoundStretches.{HasLowNames, EndsAreLowestNames}
 use Rattle.zone_stretches.specs.Spans.{Beginning, beginning_after, first_beginning, span_to_end, span_until, spans_from, spans_of}
-use Rattle.zone_stretches.specs.Stretches.{stretch_of_span, free_stretch, stretches_of_zone}
+use Rattle.zone_stretches.specs.Stretches.{free_stretch, stretches_of_zone}
 use Rattle.zone_stretches.specs.Tenures.{Tenure, changes_hands, counted, first_tenure, tenure_after, tenure_until, tenures_from, tenures_of}
 use Rattle.sync_types.proofs.BoardTests.{no_truth, first_passes}
 use Rattle.sync_types.specs.BoardActions.{after_own_part, channels_started}
@@ -360,8 +360,8 @@ zone_named : (job : JobView) (b : Board) (moves : List Move) (items : List (List
 unfolding spans_of tenures_of
 zone_named job b moves items zone =
     each_stretch job items (occurrences_of b moves) zone (HasLowNames b moves)
-    (λ c. All-weaker (λ span. HasNames b moves span.begins span.last) (λ span. HasLowNames b moves (stretch_of_span job zone c span))
-    (λ span names. record { first = names.first; last = names.last }) (spans_of job items (occurrences_of b moves) c)
+    (λ c. All-weaker (λ span. HasNames b moves span.begins span.last) (HoldsOf job zone (HasLowNames b moves) c)
+    (λ span names. (record { first = names.first; last = names.last }, λ t free. record { first = names.first; last = free.last })) (spans_of job items (occurrences_of b moves) c)
     (spans_named b moves items (first_beginning job c) (filter (λ o. o.channel == c) (occurrences_of b moves)) tt
     (All-filter (λ o. o.channel == c) (λ o. IsLowestName b moves o.name) (occurrences_of b moves) (occurrences_named b moves))))
     (All-weaker (λ t. HasNames b moves t.begins t.last) (λ t. HasLowNames b moves (free_stretch job zone t))

@@ -11,11 +11,11 @@ use Rattle.sync_types.specs.Views.{RunView}
 use Rattle.sync_types.specs.declared.Item.{Item}
 use Rattle.sync_types.specs.declared.runs.EventId.{EventId}
 use Rattle.zone_stretches.proofs.CoverLaws.{HasItems, all_alike, spans_have_items}
-use Rattle.zone_stretches.proofs.StretchLaws.{each_stretch, each_time}
+use Rattle.zone_stretches.proofs.StretchLaws.{HoldsOf, each_stretch, each_time}
 use Rattle.zone_stretches.specs.ActiveParts.{ZoneSpan, is_on_at, IsMotionAt, IsLineAt, stand_after_all, stand_before, IsActivePart, IsPartBox, does_hold, DoAscend, ShareOutPlaces, boxes_in, HasSpan, StretchesShareOutPlaces}
 use Rattle.zone_stretches.specs.Occurrences.{Occurrence, occurrences_of}
 use Rattle.zone_stretches.specs.Spans.{Beginning, entry_of_beginning, spans_of}
-use Rattle.zone_stretches.specs.Stretches.{free_stretch, stretch_between, stretch_of_span, stretches_of_zone}
+use Rattle.zone_stretches.specs.Stretches.{free_stretch, stretch_between, stretches_of_zone}
 use Rattle.zone_stretches.specs.Tenures.{tenures_of}
 use Rattle.zone_stretches.specs.ZoneBoxes.{stand_after, seen, turned, on_after, PlaceBox, Opened, Shut, Waiting, Moving, closed, closed_before, next_open, walk, boxes_of}
 use Rattle.zone_stretches.specs.declared.sights.Sight.{Sight}
@@ -693,8 +693,11 @@ stretch_has_span job run zone channel begins last entry items has = record {
 zone_shared : (job : JobView) (run : RunView) (occurrences : List Occurrence) (zone : ZoneLine) → All (HasSpan job run zone) (stretches_of_zone job run.items occurrences zone)
 zone_shared job run occurrences zone =
     each_stretch job run.items occurrences zone (HasSpan job run zone)
-    (λ c. All-weaker (λ span. HasItems run.items span.entry span.items) (λ span. HasSpan job run zone (stretch_of_span job zone c span))
-    (λ span has. stretch_has_span job run zone (Some c) span.begins span.last span.entry span.items has)
+    (λ c. All-weaker (λ span. HasItems run.items span.entry span.items) (HoldsOf job zone (HasSpan job run zone) c)
+    (λ span has. (
+      stretch_has_span job run zone (Some c) span.begins span.last span.entry span.items has,
+      λ t free. stretch_has_span job run zone (Some c) span.begins t.last span.entry span.items has,
+    ))
     (spans_of job run.items occurrences c) (spans_have_items job run.items occurrences c))
     (all_alike (λ t. HasSpan job run zone (free_stretch job zone t)) (λ t. stretch_has_span job run zone None t.begins t.last (entry_of_beginning t.begins) [] (inl refl)) (tenures_of job occurrences zone))
 

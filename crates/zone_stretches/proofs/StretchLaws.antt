@@ -12,7 +12,7 @@ use Rattle.sync_types.specs.declared.Item.{Item}
 use Rattle.zone_stretches.specs.Occurrences.{Occurrence, occurrences_of}
 use Rattle.zone_stretches.specs.Overlaps.{ZoneTime, zone_times}
 use Rattle.zone_stretches.specs.Spans.{Span, spans_of}
-use Rattle.zone_stretches.specs.Stretches.{StretchView, stretch_of_span, free_stretch, spans_between, stretches_held_by, stretches_in_tenure, stretches_of_zone, all_stretches}
+use Rattle.zone_stretches.specs.Stretches.{StretchView, stretch_of_span, free_stretch, spans_between, spans_in, spans_until, stretches_held_by, stretches_in_tenure, stretches_of_zone, all_stretches}
 use Rattle.zone_stretches.specs.Tenures.{Tenure, tenures_of}
 
 -- ---- zones
@@ -49,13 +49,29 @@ between : (P : Span → Type 0) (spans : List Span) (from : ℕ) (upto : Option 
 between P spans from None all = All-drop P from spans all
 between P spans from (Some upto) all = All-take P (suc upto - from) (drop from spans) (All-drop P from spans all)
 
-held : (job : JobView) (zone : ZoneLine) (spans : ℕ → List Span) (P : StretchView → Type 0) → ((c : ℕ) → All (λ span. P (stretch_of_span job zone c span)) (spans c))
+-- it holds of the stretch of a span, also where that ends with a tenure
+abbrev pub HoldsOf : JobView → ZoneLine → (StretchView → Type 0) → ℕ → Span → Type 0
+HoldsOf job zone P c span =
+    P (stretch_of_span job zone c span) × ((t : Tenure) → P (free_stretch job zone t) → P (stretch_of_span job zone c (record span { last = t.last })))
+
+until : (job : JobView) (zone : ZoneLine) (P : StretchView → Type 0) (c : ℕ) (t : Tenure) → P (free_stretch job zone t) → (spans : List Span) → All (HoldsOf job zone P c) spans
+    → All (λ span. P (stretch_of_span job zone c span)) (spans_until t.last spans)
+until job zone P c t free [] each = All-nil (λ span. P (stretch_of_span job zone c span))
+until job zone P c t free (span ∷ []) each =
+    All-cons (λ span. P (stretch_of_span job zone c span)) (record span { last = t.last }) [] ((All-head (HoldsOf job zone P c) span [] each).1 t free)
+    (All-nil (λ span. P (stretch_of_span job zone c span)))
+until job zone P c t free (span ∷ next ∷ spans) each =
+    All-cons (λ span. P (stretch_of_span job zone c span)) span (spans_until t.last (next ∷ spans)) (All-head (HoldsOf job zone P c) span (next ∷ spans) each).0
+    (until job zone P c t free (next ∷ spans) (All-tail (HoldsOf job zone P c) span (next ∷ spans) each))
+
+held : (job : JobView) (zone : ZoneLine) (spans : ℕ → List Span) (P : StretchView → Type 0) → ((c : ℕ) → All (HoldsOf job zone P c) (spans c))
     → (t : Tenure) → P (free_stretch job zone t) → (owner : Option ℕ) → All P (stretches_held_by job zone spans t owner)
 held job zone spans P each t free None = All-cons P (free_stretch job zone t) [] free (All-nil P)
 held job zone spans P each t free (Some c) =
-    All-map P (stretch_of_span job zone c) (spans_between (spans c) t.from t.upto) (between (λ span. P (stretch_of_span job zone c span)) (spans c) t.from t.upto (each c))
+    All-map P (stretch_of_span job zone c) (spans_in (spans c) t)
+    (until job zone P c t free (spans_between (spans c) t.from t.upto) (between (HoldsOf job zone P c) (spans c) t.from t.upto (each c)))
 
-pub in_tenures : (job : JobView) (zone : ZoneLine) (spans : ℕ → List Span) (P : StretchView → Type 0) → ((c : ℕ) → All (λ span. P (stretch_of_span job zone c span)) (spans c))
+pub in_tenures : (job : JobView) (zone : ZoneLine) (spans : ℕ → List Span) (P : StretchView → Type 0) → ((c : ℕ) → All (HoldsOf job zone P c) (spans c))
     → (tenures : List Tenure) → All (λ t. P (free_stretch job zone t)) tenures → All P (flat_map (stretches_in_tenure job zone spans) tenures)
 in_tenures job zone spans P each [] free = All-nil P
 in_tenures job zone spans P each (t ∷ ts) free =
@@ -64,7 +80,7 @@ in_tenures job zone spans P each (t ∷ ts) free =
     (in_tenures job zone spans P each ts (All-tail (λ t. P (free_stretch job zone t)) t ts free))
 
 pub each_stretch : (job : JobView) (items : List (List Item)) (occurrences : List Occurrence) (zone : ZoneLine) (P : StretchView → Type 0)
-    → ((c : ℕ) → All (λ span. P (stretch_of_span job zone c span)) (spans_of job items occurrences c))
+    → ((c : ℕ) → All (HoldsOf job zone P c) (spans_of job items occurrences c))
     → All (λ t. P (free_stretch job zone t)) (tenures_of job occurrences zone) → All P (stretches_of_zone job items occurrences zone)
 unfolding stretches_of_zone
 each_stretch job items occurrences zone P each free = in_tenures job zone (spans_of job items occurrences) P each (tenures_of job occurrences zone) free

@@ -51,9 +51,19 @@ abbrev pub spans_between : List Span → ℕ → Option ℕ → List Span
 spans_between spans from None = drop from spans
 spans_between spans from (Some upto) = take (suc upto - from) (drop from spans)
 
+-- these spans, of which the last ends with this event, or lasts
+abbrev pub spans_until : Option EventId → List Span → List Span
+spans_until last [] = []
+spans_until last (span ∷ []) = record span { last = last } ∷ []
+spans_until last (span ∷ next ∷ spans) = span ∷ spans_until last (next ∷ spans)
+
+-- the spans of the owner of a tenure: the last of them ends with the tenure
+abbrev pub spans_in : List Span → Tenure → List Span
+spans_in spans t = spans_until t.last (spans_between spans t.from t.upto)
+
 abbrev pub stretches_held_by : JobView → ZoneLine → (ℕ → List Span) → Tenure → Option ℕ → List StretchView
 stretches_held_by job zone spans t None = free_stretch job zone t ∷ []
-stretches_held_by job zone spans t (Some c) = map (stretch_of_span job zone c) (spans_between (spans c) t.from t.upto)
+stretches_held_by job zone spans t (Some c) = map (stretch_of_span job zone c) (spans_in (spans c) t)
 
 -- in a tenure the zone has the spans of its owner, or one stretch where nobody holds it
 abbrev pub stretches_in_tenure : JobView → ZoneLine → (ℕ → List Span) → Tenure → List StretchView
