@@ -1,9 +1,9 @@
 -- The beginnings of a channel's times as the code keeps them.
-use Rattle.std.proofs.Common.{◌≡◌, ℕ, ℤ, suc, zero, ◌+◌, ◌-◌, ◌<◌, ◌≤◌, ◌==◌, Bool, true, false, cond, All, List, [], ◌∷◌, ◌++◌, length, map, filter, drop, take, nat_lt, get_or, Option, Some, None, refl, sym, ap, ◌∙◌, arith, add-one}
+use Rattle.std.proofs.Common.{◌≡◌, ℕ, ℤ, suc, zero, ◌+◌, ◌-◌, ◌<◌, ◌≤◌, ◌==◌, Bool, true, false, cond, All, List, [], ◌∷◌, ◌++◌, length, map, filter, drop, take, nat_lt, get_or, Option, Some, None, refl, sym, ap, ◌∙◌, arith, add-one, if◌then◌else◌}
 use Rattle.std.specs.Prelude.{Vec, unwrap_or}
 use Rattle.std.specs.Global.{Global}
 use Rattle.std.proofs.Math.Seq.{drop-cons}
-use Rattle.std.proofs.lemmas.Bool.{ltb-false}
+use Rattle.std.proofs.lemmas.Bool.{eq-eqb, ltb-false, ltb-true, ne_eqb}
 use Rattle.std.proofs.lemmas.List.{append-nil, get_or-map, length-drop, length-map, map-append}
 use Rattle.std.proofs.lemmas.List.Elements.{filter-append}
 use mathlib.Core.Path.{fun_ext}
@@ -12,10 +12,11 @@ use Rattle.axis_sets.specs.Sets.{has}
 use Rattle.axis_sets.specs.declared.limits.TheConstants.{CHANNEL_PLACES}
 use Rattle.job_types.specs.Axes.{start_position}
 use Rattle.job_types.specs.Job.{JobView}
+use Rattle.job_types.specs.declared.job.ZoneLine.{ZoneLine}
 use Rattle.protection_zones.specs.Beginnings.{AreOutsets, beginnings_from, end_of, first_in, items_until, outsets_in, shown_outset, span_at, spans_along}
 use Rattle.zone_stretches.specs.Occurrences.{Occurrence}
 use Rattle.zone_stretches.specs.Rows.{positions_in}
-use Rattle.zone_stretches.specs.Stretches.{spans_between}
+use Rattle.zone_stretches.specs.Stretches.{spans_between, spans_until, stretch_of_span}
 use Rattle.zone_stretches.specs.Spans.{Beginning, Span, beginning_after, first_beginning, is_on_at_first, spans_from, spans_of, starts_at_first}
 use Rattle.protection_zones.specs.declared.spans.Outset.{Outset}
 use Rattle.sync_types.specs.declared.Item.{Item}
@@ -134,6 +135,25 @@ one_span items outsets place upto below within =
 
 pub no_span : (spans : List Span) (place upto : ℕ) → upto ≤ place → spans_left spans place upto ≡ []
 no_span spans place upto past = let none : upto - place ≡ 0 = omega arith in rw none refl
+
+-- the stretches of a tenure, one after another: the last one ends with it
+pub one_stretch : (job : JobView) (zone : ZoneLine) (c : ℕ) (items : List (List Item)) (outsets : List Outset) (place upto : ℕ) (last : Option EventId) → place < upto → upto ≤ length outsets
+    → map (stretch_of_span job zone c) (spans_until last (spans_left (spans_along items (map shown_outset outsets)) place upto))
+    ≡ (if place + 1 == upto then record (stretch_of_span job zone c (span_at items outsets place)) { last = last } else stretch_of_span job zone c (span_at items outsets place))
+    ∷ map (stretch_of_span job zone c) (spans_until last (spans_left (spans_along items (map shown_outset outsets)) (place + 1) upto))
+one_stretch job zone c items outsets place upto last below within =
+    ap (λ (xs : List Span). map (stretch_of_span job zone c) (spans_until last xs)) (one_span items outsets place upto below within) ∙ by_test (nat_lt (place + 1) upto) refl
+  where
+    by_test : (b : Bool) → nat_lt (place + 1) upto ≡ b
+        → map (stretch_of_span job zone c) (spans_until last (span_at items outsets place ∷ spans_left (spans_along items (map shown_outset outsets)) (place + 1) upto))
+        ≡ (if place + 1 == upto then record (stretch_of_span job zone c (span_at items outsets place)) { last = last } else stretch_of_span job zone c (span_at items outsets place))
+        ∷ map (stretch_of_span job zone c) (spans_until last (spans_left (spans_along items (map shown_outset outsets)) (place + 1) upto))
+    by_test true e =
+        let more : place + 1 < upto = ltb-true (place + 1) upto e in
+        rw (ne_eqb (place + 1) upto (λ same. absurd (omega (arith, same, more))), one_span items outsets (place + 1) upto more within) refl
+    by_test false e =
+        let far : upto ≤ place + 1 = ltb-false (place + 1) upto e in
+        rw (eq-eqb (place + 1) upto (omega (arith, below, far)), no_span (spans_along items (map shown_outset outsets)) (place + 1) upto far) refl
 
 pub take_more : {A : Type 0} (xs : List A) (n : ℕ) → length xs ≤ n → take n xs ≡ xs
 take_more [] zero far = refl

@@ -1,5 +1,5 @@
 //! The stretches of a zone.
-ghost use Rattle.std.specs.Prelude.{◌≡◌, [], ◌==◌, ◌≤◌, ◌<◌, ◌+◌, ◌^◌, ◌++◌, ℕ, suc, All, IfOk, OnOk, List, None, Some, drop, length, map, slice_index_or};
+ghost use Rattle.std.specs.Prelude.{◌≡◌, [], ◌==◌, ◌≤◌, ◌<◌, ◌+◌, ◌^◌, ◌++◌, ℕ, suc, All, IfOk, OnOk, List, None, Some, drop, if◌then◌else◌, length, map, slice_index_or};
 ghost use Rattle.std.specs.List.{flat_map};
 ghost use Rattle.std.specs.Option.{option_map_or};
 ghost use Rattle.axis_sets.specs.Sets.{has};
@@ -9,7 +9,7 @@ ghost use Rattle.protection_zones.specs.Terms.{shown_term};
 ghost use Rattle.zone_stretches.specs.Occurrences.{Occurrence};
 ghost use Rattle.zone_stretches.specs.Rows.{positions_in};
 ghost use Rattle.zone_stretches.specs.Spans.{Span, spans_of};
-ghost use Rattle.zone_stretches.specs.Stretches.{free_stretch, spans_between, stretch_of_span, stretches_in_tenure};
+ghost use Rattle.zone_stretches.specs.Stretches.{free_stretch, spans_in, stretch_of_span, stretches_in_tenure};
 ghost use Rattle.zone_stretches.specs.ZoneBoxes.{IsFit, boxes_of, shown_box};
 
 use crate::spans::Outset;
@@ -113,6 +113,14 @@ fn end_of(size: usize, upto: Option<usize>) -> usize
     }
 }
 
+/// The stretch of a tenure: the last one ends with the tenure.
+fn stretch_in(term: &Term, stretch: Stretch, is_last: bool) -> Stretch
+    ensures { result ≡ (if is_last then record stretch { last = term.now.last } else stretch) }
+{
+    let last = if is_last { term.last } else { stretch.last };
+    Stretch { last, ..stretch }
+}
+
 /// How the times of a channel begin.
 fn own_outsets(outsets: &[Vec<Outset>], channel: ChannelId) -> &[Outset]
     ensures own { map shown_outset result.now ≡ outsets_in outsets.now channel }
@@ -195,12 +203,13 @@ impl<'a> Scene<'a> {
         requires fit { All (All IsFit) (all_items self.now.items.now) }
         ensures { OnOk result (stretches.new.items ≡ stretches.old.items
             ++ map (stretch_of_span self.now.job.now self.now.zone.now holder.now.channel)
-            (spans_between (spans_along (all_items self.now.items.now) (map shown_outset holder.now.outsets.now))
-            term.now.from term.now.upto)) }
+            (spans_in (spans_along (all_items self.now.items.now) (map shown_outset holder.now.outsets.now))
+            (shown_term term.now))) }
     {
-        for place in term.from..end_of(holder.outsets.len(), term.upto) {
+        let end = end_of(holder.outsets.len(), term.upto);
+        for place in term.from..end {
             let stretch = self.held_stretch(alloc, scratch, holder, place)?;
-            stretches.push(stretch)?;
+            stretches.push(stretch_in(term, stretch, place + 1 == end))?;
         }
         Ok(())
     }

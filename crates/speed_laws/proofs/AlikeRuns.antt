@@ -15,7 +15,7 @@ use Rattle.schedule_laws.specs.Schedules.{IsMaximalOf, IsQuietRun, moves_by}
 use Rattle.schedule_laws.specs.Tracked.{tenures_at}
 use Rattle.speed_laws.proofs.AlikeEvents.{AreAlikeEvents, events_alike}
 use Rattle.speed_laws.proofs.AlikeNames.{overlaps_alike}
-use Rattle.speed_laws.proofs.AlikeSpans.{AllAlikeSpans, AllAlikeTold, AreAlikeTold, between_alike, channel_alike, stretch_alike}
+use Rattle.speed_laws.proofs.AlikeSpans.{AllAlikeSpans, AllAlikeTold, AreAlikeTold, between_alike, channel_alike, ended_alike, stretch_alike}
 use Rattle.speed_laws.proofs.AlikeStates.{clocks_alike, tellings_alike, tenures_alike}
 use Rattle.speed_laws.proofs.AlikeTenures.{AllAlikeTenures, AreAlikeTenures, zone_alike}
 use Rattle.speed_laws.proofs.StartZones.{zones_start}
@@ -32,7 +32,7 @@ use Rattle.zone_stretches.specs.Occurrences.{Occurrence, occurrences_of}
 use Rattle.zone_stretches.specs.Overlaps.{Order}
 use Rattle.zone_stretches.specs.SoundStretches.{IsZoneOf}
 use Rattle.zone_stretches.specs.Spans.{Span, entry_of_beginning, spans_of}
-use Rattle.zone_stretches.specs.Stretches.{StretchView, all_stretches, spans_between, stretch_of_span, stretches_held_by, stretches_in_tenure, stretches_of_zone}
+use Rattle.zone_stretches.specs.Stretches.{StretchView, all_stretches, spans_between, spans_in, stretch_of_span, stretches_held_by, stretches_in_tenure, stretches_of_zone}
 use Rattle.zone_stretches.specs.Tenures.{Tenure, tenures_of}
 
 -- ---- lists
@@ -94,10 +94,11 @@ module _ (b : Board) (ms ns : List Move) (run other : RunView) where
       tt,
     )
     held_alike t u (Some c) are =
-        mapped_alike c (spans_between (spans c) t.from t.upto) (spans_between (others c) u.from u.upto)
+        mapped_alike c (spans_in (spans c) t) (spans_in (others c) u)
+        (ended_alike b ms ns run other t.last u.last (spans_between (spans c) t.from t.upto) (spans_between (others c) u.from u.upto) are.last
         (subst (λ (upto : Option ℕ). AllAlikeSpans b ms ns run other (spans_between (spans c) t.from t.upto) (spans_between (others c) u.from upto)) are.upto
         (subst (λ (from : ℕ). AllAlikeSpans b ms ns run other (spans_between (spans c) t.from t.upto) (spans_between (others c) from t.upto)) are.from
-        (between_alike b ms ns run other (spans c) (others c) t.from t.upto (each c))))
+        (between_alike b ms ns run other (spans c) (others c) t.from t.upto (each c)))))
 
     tenures_told : (ts us : List Tenure) → AllAlikeTenures b ms ns run other ts us
         → AllAlikeTold b ms ns run other (flat_map (stretches_in_tenure job zone spans) ts) (flat_map (stretches_in_tenure job zone others) us)

@@ -13,13 +13,14 @@ use Rattle.sync_types.specs.Boards.{Board}
 use Rattle.sync_types.specs.Items.{motion_of}
 use Rattle.sync_types.specs.Turns.{Move}
 use Rattle.sync_types.specs.Views.{RunView}
+use Rattle.sync_types.specs.declared.runs.EventId.{EventId}
 use Rattle.sync_types.specs.declared.Item.{Item}
 use Rattle.sync_types.specs.declared.verdicts.PlaceName.{PlaceName}
 use Rattle.sync_types.specs.declared.verdicts.StretchKind.{StretchKind}
 use Rattle.zone_stretches.specs.Occurrences.{Occurrence}
 use Rattle.zone_stretches.specs.Pieces.{motion_at}
 use Rattle.zone_stretches.specs.Spans.{Beginning, Span, beginning_after, entry_of_beginning, first_beginning, span_until, spans_from, spans_of}
-use Rattle.zone_stretches.specs.Stretches.{StretchView, spans_between, stretch_between}
+use Rattle.zone_stretches.specs.Stretches.{StretchView, spans_between, spans_until, stretch_between}
 use Rattle.zone_stretches.specs.ZoneBoxes.{boxes_of, shown_box}
 use Rattle.zone_stretches.specs.declared.stretches.ZoneBox.{ZoneBox}
 
@@ -118,6 +119,16 @@ module _ (b : Board) (ms ns : List Move) (run other : RunView) where
   pub between_alike : (spans others : List Span) (from : ℕ) (upto : Option ℕ) → AllAlikeSpans spans others → AllAlikeSpans (spans_between spans from upto) (spans_between others from upto)
   between_alike spans others from None are = dropped_alike from spans others are
   between_alike spans others from (Some upto) are = taken_alike (suc upto - from) (drop from spans) (drop from others) (dropped_alike from spans others are)
+
+  pub ended_alike : (last also : Option EventId) (spans others : List Span) → AreAlikeEnds b ms ns last also → AllAlikeSpans spans others → AllAlikeSpans (spans_until last spans) (spans_until also others)
+  ended_alike last also [] [] ends are = are
+  ended_alike last also [] (other ∷ others) ends are = absurd are
+  ended_alike last also (span ∷ []) [] ends are = absurd are
+  ended_alike last also (span ∷ []) (other ∷ []) ends are = (record { begins = are.0.begins; last = ends; items = are.0.items; entry = are.0.entry }, tt)
+  ended_alike last also (span ∷ []) (other ∷ one ∷ others) ends are = absurd are.1
+  ended_alike last also (span ∷ next ∷ spans) [] ends are = absurd are
+  ended_alike last also (span ∷ next ∷ spans) (other ∷ []) ends are = absurd are.1
+  ended_alike last also (span ∷ next ∷ spans) (other ∷ one ∷ others) ends are = (are.0, ended_alike last also (next ∷ spans) (one ∷ others) ends are.1)
 
   -- ---- stretches
 

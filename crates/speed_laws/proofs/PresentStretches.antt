@@ -1,6 +1,7 @@
 -- Each zone is in a stretch of the run that speaks for all that is current.
-use Rattle.std.proofs.Common.{◌≡◌, ◌⊎◌, ◌∙◌, ℕ, zero, suc, ◌+◌, ◌-◌, ◌<◌, ◌≤◌, Bool, true, false, ◌==◌, List, [], ◌∷◌, filter, take, drop, slice_get, Contains, Option, None, Some, IfSome, inl, inr, refl, sym, ap, subst, arith}
-use Rattle.std.proofs.lemmas.List.Elements.{All-contains}
+use Rattle.std.proofs.Common.{◌≡◌, ◌⊎◌, ◌∙◌, ℕ, zero, suc, ◌+◌, ◌-◌, ◌<◌, ◌≤◌, Bool, true, false, ◌==◌, List, [], ◌∷◌, All, filter, map, take, drop, slice_get, Contains, Option, None, Some, IfSome, inl, inr, refl, sym, ap, subst, arith}
+use Rattle.std.proofs.lemmas.List.Elements.{All-contains, All-head, All-tail}
+use Rattle.board_laws.proofs.Zones.{zones_first}
 use Rattle.channel_machine.specs.StartStates.{start_of}
 use Rattle.job_types.specs.Job.{JobView}
 use Rattle.job_types.specs.Zones.{zones_in_order}
@@ -19,6 +20,7 @@ use Rattle.sync_types.specs.Boards.{among, channel_numbers, first_board}
 use Rattle.sync_types.specs.Events.{IsLowestName}
 use Rattle.sync_types.specs.Runs.{first_stage, stage_after}
 use Rattle.sync_types.specs.declared.runs.EventId.{EventId}
+use Rattle.zone_stretches.proofs.AscentLaws.{EndsItself, spans_end_with_tenures}
 use Rattle.zone_stretches.proofs.NameLaws.{occurrences_named}
 use Rattle.zone_stretches.specs.Occurrences.{Occurrence, occurrences_of}
 use Rattle.zone_stretches.specs.SoundStretches.{IsZoneOf}
@@ -53,6 +55,12 @@ in_between spans from n upto span is low high =
     by_end : (upto : Option ℕ) → IfSome upto (λ u. n ≤ u) → slice_get (drop from spans) (n - from) ≡ Some span → SomeOf (λ s. s ≡ span) (spans_between spans from upto)
     by_end None high dropped = some_at (drop from spans) (n - from) span dropped
     by_end (Some u) high dropped = some_at (take (suc u - from) (drop from spans)) (n - from) span (at_taken (drop from spans) (suc u - from) (n - from) span (omega (arith, low, high)) dropped)
+
+-- one of these, of all of which more is known
+some_where : (P Q R : Tenure → Type 0) → ((t : Tenure) → P t → Q t → R t) → (ts : List Tenure) → SomeOf P ts → All Q ts → SomeOf R ts
+some_where P Q R each [] some all = absurd some
+some_where P Q R each (t ∷ ts) (inl here) all = inl (each t here (All-head Q t ts all))
+some_where P Q R each (t ∷ ts) (inr there) all = inr (some_where P Q R each ts there (All-tail Q t ts all))
 
 -- ---- the stretch
 
@@ -94,16 +102,17 @@ module _ (job : JobView) (doings : Doings) (qs rs : List ℕ) (quiet : IsQuietRu
   abbrev BeginsLast : Tenure → Type 0
   BeginsLast = BeginsWithLast events (occurrences_of (first_board (start_of job)) (moves_by doings.script (start_of job) rs)) zone (first_tenure job zone).begins
 
-  held_now : (c : ℕ) → holder ≡ Some c → (t : Tenure) → Present t → SomeOf Wanted (stretches_in_tenure job zone spans t)
-  held_now c is t present =
+  held_now : (c : ℕ) → holder ≡ Some c → (t : Tenure) → Present t → EndsItself spans t → SomeOf Wanted (stretches_in_tenure job zone spans t)
+  held_now c is t present ends =
       let now = present_span job doings qs rs quiet run c (known c is) in
       let held = present.held c is in
       let between = in_between (spans c) t.from (counts c) t.upto now.span now.there held.0 held.1 in
       subst (λ (o : Option ℕ). SomeOf Wanted (stretches_held_by job zone spans t o)) (sym (present.owner ∙ is))
+      (subst (λ (xs : List Span). SomeOf Wanted (map (stretch_of_span job zone c) xs)) (sym (ends c (present.owner ∙ is)))
       (SomeOf-map Wanted (stretch_of_span job zone c) (spans_between (spans c) t.from t.upto)
       (SomeOf-weaker (λ s. s ≡ now.span) (λ s. Wanted (stretch_of_span job zone c s))
       (λ s same. subst (λ (s : Span). Wanted (stretch_of_span job zone c s)) (sym same) (record { begun = now.begun; not_over = now.not_over }, inl (c, is, now, refl)))
-      (spans_between (spans c) t.from t.upto) between))
+      (spans_between (spans c) t.from t.upto) between)))
 
   named : (c k : ℕ) (o : Occurrence) → slice_get (filter (λ p. p.channel == c) events) k ≡ Some o → Named o.name
   named c k o is = kept_holds (λ p. Named p.name) (λ p. p.channel == c) events k o (occurrences_named (first_board (start_of job)) (moves_by doings.script (start_of job) qs)) is
@@ -133,11 +142,13 @@ module _ (job : JobView) (doings : Doings) (qs rs : List ℕ) (quiet : IsQuietRu
   unfolding stretches_of_zone
   zone_now =
       SomeOf-flat_map Wanted (stretches_in_tenure job zone spans) (tenures_of job events zone)
-      (SomeOf-weaker (λ t. Present t × BeginsLast t) (λ t. SomeOf Wanted (stretches_in_tenure job zone spans t)) (by_holder holder refl) (tenures_of job events zone) (present_tenure job doings.script qs rs quiet run zone there))
+      (some_where (λ t. Present t × BeginsLast t) (EndsItself spans) (λ t. SomeOf Wanted (stretches_in_tenure job zone spans t)) (by_holder holder refl) (tenures_of job events zone)
+      (present_tenure job doings.script qs rs quiet run zone there)
+      (spans_end_with_tenures job (start_of job) (items_by doings (first_stage (start_of job)) qs) (moves_by doings.script (start_of job) qs) zone (zones_first (start_of job) quiet.sound) there))
     where
-      by_holder : (o : Option ℕ) → holder ≡ o → (t : Tenure) → Present t × BeginsLast t → SomeOf Wanted (stretches_in_tenure job zone spans t)
-      by_holder None is t found = free_now is t found.0 found.1
-      by_holder (Some c) is t found = held_now c is t found.0
+      by_holder : (o : Option ℕ) → holder ≡ o → (t : Tenure) → Present t × BeginsLast t → EndsItself spans t → SomeOf Wanted (stretches_in_tenure job zone spans t)
+      by_holder None is t found ends = free_now is t found.0 found.1
+      by_holder (Some c) is t found ends = held_now c is t found.0 ends
 
 -- ---- as a law
 

@@ -171,8 +171,10 @@ zone_covered : (job : JobView) (run : RunView) (occurrences : List Occurrence) (
 zone_covered job run occurrences zone =
     each_stretch job run.items occurrences zone (λ stretch. All (HasCover job run zone stretch) stretch.boxes)
     (λ c. All-weaker (λ span. HasItems run.items span.entry span.items) (HoldsOf job zone (λ stretch. All (HasCover job run zone stretch) stretch.boxes) c)
-    (λ span has. (stretch_covered job run zone (Some c) span.begins span.last span.entry span.items has,
-    λ t free. stretch_covered job run zone (Some c) span.begins t.last span.entry span.items has))
+    (λ span has. (
+      stretch_covered job run zone (Some c) span.begins span.last span.entry span.items has,
+      λ t free. stretch_covered job run zone (Some c) span.begins t.last span.entry span.items has,
+    ))
     (spans_of job run.items occurrences c) (spans_have_items job run.items occurrences c))
     (all_alike (λ t. All (HasCover job run zone (free_stretch job zone t)) (free_stretch job zone t).boxes)
     (λ t. stretch_covered job run zone None t.begins t.last (entry_of_beginning t.begins) [] (inl refl)) (tenures_of job occurrences zone))

@@ -694,8 +694,10 @@ zone_shared : (job : JobView) (run : RunView) (occurrences : List Occurrence) (z
 zone_shared job run occurrences zone =
     each_stretch job run.items occurrences zone (HasSpan job run zone)
     (λ c. All-weaker (λ span. HasItems run.items span.entry span.items) (HoldsOf job zone (HasSpan job run zone) c)
-    (λ span has. (stretch_has_span job run zone (Some c) span.begins span.last span.entry span.items has,
-    λ t free. stretch_has_span job run zone (Some c) span.begins t.last span.entry span.items has))
+    (λ span has. (
+      stretch_has_span job run zone (Some c) span.begins span.last span.entry span.items has,
+      λ t free. stretch_has_span job run zone (Some c) span.begins t.last span.entry span.items has,
+    ))
     (spans_of job run.items occurrences c) (spans_have_items job run.items occurrences c))
     (all_alike (λ t. HasSpan job run zone (free_stretch job zone t)) (λ t. stretch_has_span job run zone None t.begins t.last (entry_of_beginning t.begins) [] (inl refl)) (tenures_of job occurrences zone))
 
