@@ -6,11 +6,12 @@ use Rattle.std.proofs.lemmas.List.{length-map}
 use Rattle.std.proofs.lemmas.List.Concat.{length-flat_map}
 use Rattle.std.proofs.lemmas.List.Sums.{sum_by-append, sum_by-cons, length-filter}
 use Rattle.clash_check.specs.Counts.{count_of}
-use Rattle.clash_check.specs.PairCounts.{count_sharing, count_in_boxes, count_in_stretches, count_against, count_of_zones, count_in_times}
+use Rattle.clash_check.specs.PairCounts.{count_sharing, count_in_boxes, count_in_stretches, count_against, count_of_zones, count_with}
 use Rattle.job_types.specs.Job.{JobView}
 use Rattle.job_types.specs.declared.job.ZoneLine.{ZoneLine}
 use Rattle.zone_stretches.specs.Overlaps.{Order, Pair, ZoneTime, may_overlap, share_channel, share_place, are_compared, box_pairs, stretch_pairs, pairs_of_zones, pairs_by_group, zone_times, compared_pairs}
 use Rattle.zone_stretches.specs.Stretches.{StretchView, StretchesView}
+use Rattle.zone_stretches.specs.TimedZones.{TimedZoneView, each_two}
 use Rattle.zone_stretches.specs.declared.stretches.ZoneBox.{ZoneBox}
 
 -- ---- sums
@@ -139,19 +140,25 @@ count_zones before one two =
 of_pair : Order → ZoneTime × ZoneTime → ℕ
 of_pair before pair = length (pairs_of_zones before pair.0 pair.1)
 
-count_groups : (before : Order) (times : List ZoneTime) → sum_by (of_pair before) (pairs_by_group times) ≡ count_in_times before times
+count_groups : (before : Order) (zones : List TimedZoneView) → sum_by (of_pair before) (pairs_by_group (map (λ (zone : TimedZoneView). zone.time) zones)) ≡ sum_by (count_with before) (each_two zones)
 unfolding of_pair count_of_zones
 count_groups before [] = refl
 count_groups before (one ∷ others) =
-    sum_by-append (of_pair before) (map (λ (two : ZoneTime). (one, two)) (filter (λ two. not (one.zone.group == two.zone.group)) others)) (pairs_by_group others)
-    ∙ ap (λ (n : ℕ). n + sum_by (of_pair before) (pairs_by_group others))
-    (sum_by-map (of_pair before) (λ (two : ZoneTime). (one, two)) (filter (λ two. not (one.zone.group == two.zone.group)) others)
-    ∙ sum_by-filter (λ (two : ZoneTime). of_pair before (one, two)) (λ two. not (one.zone.group == two.zone.group)) others
-    ∙ sum_by-same (λ (two : ZoneTime). cond (not (one.zone.group == two.zone.group)) (of_pair before (one, two)) 0) (count_of_zones before one)
-    (λ two. unless (one.zone.group == two.zone.group) _ _ (count_zones before one two)) others)
-    ∙ ap (λ (n : ℕ). sum_by (count_of_zones before one) others + n) (count_groups before others)
+    let times : List ZoneTime = map (λ (zone : TimedZoneView). zone.time) others in
+    sum_by-append (of_pair before) (map (λ (two : ZoneTime). (one.time, two)) (filter (λ two. not (one.time.zone.group == two.zone.group)) times)) (pairs_by_group times)
+    ∙ ap (λ (n : ℕ). n + sum_by (of_pair before) (pairs_by_group times))
+    (sum_by-map (of_pair before) (λ (two : ZoneTime). (one.time, two)) (filter (λ two. not (one.time.zone.group == two.zone.group)) times)
+    ∙ sum_by-filter (λ (two : ZoneTime). of_pair before (one.time, two)) (λ two. not (one.time.zone.group == two.zone.group)) times
+    ∙ sum_by-same (λ (two : ZoneTime). cond (not (one.time.zone.group == two.zone.group)) (of_pair before (one.time, two)) 0) (count_of_zones before one.time)
+    (λ two. unless (one.time.zone.group == two.zone.group) _ _ (count_zones before one.time two)) times
+    ∙ sum_by-map (count_of_zones before one.time) (λ (zone : TimedZoneView). zone.time) others
+    ∙ sym (sum_by-map (count_with before) (λ (two : TimedZoneView). (one, two)) others))
+    ∙ ap (λ (n : ℕ). sum_by (count_with before) (map (λ (two : TimedZoneView). (one, two)) others) + n) (count_groups before others)
+    ∙ sym (sum_by-append (count_with before) (map (λ (two : TimedZoneView). (one, two)) others) (each_two others))
 
-pub count_is : (before : Order) (job : JobView) (stretches : StretchesView) → count_in_times before (zone_times job stretches) ≡ count_of before job stretches
+pub count_is : (before : Order) (job : JobView) (stretches : StretchesView) (zones : List TimedZoneView) → map (λ (zone : TimedZoneView). zone.time) zones ≡ zone_times job stretches
+    → sum_by (count_with before) (each_two zones) ≡ count_of before job stretches
 unfolding count_of compared_pairs of_pair
-count_is before job stretches =
-    sym (length-flat_map (λ (pair : ZoneTime × ZoneTime). pairs_of_zones before pair.0 pair.1) (pairs_by_group (zone_times job stretches)) ∙ count_groups before (zone_times job stretches))
+count_is before job stretches zones times =
+    sym (length-flat_map (λ (pair : ZoneTime × ZoneTime). pairs_of_zones before pair.0 pair.1) (pairs_by_group (zone_times job stretches))
+    ∙ ap (λ (ts : List ZoneTime). sum_by (of_pair before) (pairs_by_group ts)) (sym times) ∙ count_groups before zones)

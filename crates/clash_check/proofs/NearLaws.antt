@@ -1,7 +1,5 @@
 -- The stretches of another zone that may overlap one are all that count.
-use Rattle.std.proofs.Common.{◌≡◌, ◌∙◌, ℕ, zero, suc, ◌+◌, ◌<◌, ◌==◌, Bool, true, false, cond, List, [], ◌∷◌, length, drop, take, get_or, map, Option, None, All, refl, sym, ap, subst, zero-add, arith}
-use Rattle.std.specs.Global.{Global}
-use Rattle.std.specs.Prelude.{Vec}
+use Rattle.std.proofs.Common.{◌≡◌, ◌∙◌, ℕ, zero, suc, ◌+◌, ◌==◌, Bool, true, false, cond, List, [], ◌∷◌, length, drop, take, get_or, map, Option, None, All, refl, sym, ap, subst, zero-add}
 use Rattle.std.specs.List.{sum_by, zip}
 use Rattle.std.specs.Option.{option_or}
 use Rattle.std.proofs.lemmas.List.Elements.{All-nil, All-cons, All-head, All-tail}
@@ -24,7 +22,6 @@ use Rattle.zone_stretches.specs.Cases.{Case}
 use Rattle.zone_stretches.specs.Overlaps.{Order, ZoneTime, may_overlap, zone_times}
 use Rattle.zone_stretches.specs.SoundStretches.{HasLowNames}
 use Rattle.zone_stretches.specs.Stretches.{StretchView, StretchesView, all_stretches}
-use Rattle.zone_stretches.specs.Times.{lists_in}
 use Rattle.zone_stretches.specs.Told.{IsTold}
 
 -- ---- counts
@@ -108,36 +105,20 @@ timed_by job run stretches clocks told = record {
   names = subst (λ (s : StretchesView). All (All (HasLowNames (first_board told.start) (moves_in run.entries))) s.zones) (sym told.told) (low_lists job (first_board told.start) run);
 }
 
--- those of one zone, and those of it and another
-at_place : (P : List StretchView → Type 0) (lists : List (Vec StretchView Global)) (place : ℕ) (d : Vec StretchView Global) → place < length lists → All P (lists_in lists) → P (get_or lists place d).items
-at_place P [] place d within all = absurd (omega arith)
-at_place P (v ∷ lists) zero d within all = All-head P v.items (lists_in lists) all
-at_place P (v ∷ lists) (suc place) d within all = at_place P lists place d (omega arith) (All-tail P v.items (lists_in lists) all)
+-- those of two zones
+of_place : (P : StretchView → Type 0) (lists : List (List StretchView)) (place : ℕ) → All (All P) lists → All P (get_or lists place [])
+of_place P [] place all = All-nil P
+of_place P (stretches ∷ lists) zero all = All-head (All P) stretches lists all
+of_place P (stretches ∷ lists) (suc place) all = of_place P lists place (All-tail (All P) stretches lists all)
 
-part_at : (P : List StretchView → Type 0) (lists : List (Vec StretchView Global)) (place : ℕ) (v : Vec StretchView Global) (part : List StretchView) → place < length lists
-    → v ≡ get_or lists place v → part ≡ v.items → All P (lists_in lists) → P part
-part_at P lists place v part within is part_is all =
-    subst P (sym part_is) (subst (λ (w : Vec StretchView Global). P w.items) (sym is) (at_place P lists place v within all))
-
-pub timed_own : (before : Order) (lists : List (Vec StretchView Global)) (place : ℕ) (v : Vec StretchView Global) (own : List StretchView) → place < length lists → v ≡ get_or lists place v
-    → own ≡ v.items → IsTimed before (lists_in lists) → IsTimed before (own ∷ lists_in lists)
-timed_own before lists place v own within is own_is timed = record {
-  board = timed.board;
-  moves = timed.moves;
-  order = timed.order;
-  names = All-cons (All (HasLowNames timed.board timed.moves)) own (lists_in lists) (part_at (All (HasLowNames timed.board timed.moves)) lists place v own within is own_is timed.names) timed.names;
-}
-
-pub timed_other : (before : Order) (own : List StretchView) (lists : List (Vec StretchView Global)) (place : ℕ) (v : Vec StretchView Global) (others : List StretchView) → place < length lists
-    → v ≡ get_or lists place v → others ≡ v.items → IsTimed before (own ∷ lists_in lists) → IsTimed before (own ∷ (others ∷ []))
-timed_other before own lists place v others within is others_is timed =
-    let here : All (HasLowNames timed.board timed.moves) own = All-head (All (HasLowNames timed.board timed.moves)) own (lists_in lists) timed.names in
-    let rest : All (All (HasLowNames timed.board timed.moves)) (lists_in lists) = All-tail (All (HasLowNames timed.board timed.moves)) own (lists_in lists) timed.names in
-    let there : All (HasLowNames timed.board timed.moves) others = part_at (All (HasLowNames timed.board timed.moves)) lists place v others within is others_is rest in
+pub timed_pair : (before : Order) (lists : List (List StretchView)) (left right : ℕ) (own others : List StretchView) → own ≡ get_or lists left [] → others ≡ get_or lists right []
+    → IsTimed before lists → IsTimed before (own ∷ (others ∷ []))
+timed_pair before lists left right own others own_is others_is timed =
+    let Low : StretchView → Type 0 = HasLowNames timed.board timed.moves in
     record {
       board = timed.board;
       moves = timed.moves;
       order = timed.order;
-      names = All-cons (All (HasLowNames timed.board timed.moves)) own (others ∷ []) here
-          (All-cons (All (HasLowNames timed.board timed.moves)) others [] there (All-nil (All (HasLowNames timed.board timed.moves))));
+      names = All-cons (All Low) own (others ∷ []) (subst (All Low) (sym own_is) (of_place Low lists left timed.names))
+          (All-cons (All Low) others [] (subst (All Low) (sym others_is) (of_place Low lists right timed.names)) (All-nil (All Low)));
     }

@@ -1,17 +1,15 @@
 -- What is counted and what is found first in the zones of a job, one by one.
 use Rattle.std.proofs.Common.{◌≡◌, ◌∙◌, ℕ, zero, suc, ◌+◌, ◌<◌, ◌≤◌, ◌^◌, ◌-◌, List, [], ◌∷◌, drop, length, slice_get, Option, None, Some, option_and_then, min, refl, sym, ap, zero-add, arith}
 use Rattle.std.specs.List.{sum_by}
-use Rattle.std.specs.Option.{option_map_or, option_or}
-use Rattle.std.proofs.lemmas.List.Sums.{sum_by-cons}
+use Rattle.std.specs.Option.{option_or}
 use Rattle.clash_check.specs.FirstAnswer.{first_some}
 use Rattle.clash_check.specs.Meetings.{first_of_zones, first_in_times, first_with_place, first_from_place}
-use Rattle.clash_check.specs.PairCounts.{capped, count_of_zones, count_in_times, count_with_place, count_from_place}
-use Rattle.job_types.specs.Job.{JobView}
+use Rattle.clash_check.specs.Counts.{capped}
 use Rattle.job_types.specs.Zones.{zones_in_order}
 use Rattle.job_types.specs.declared.job.ZoneLine.{ZoneLine}
 use Rattle.zone_stretches.proofs.TimeLaws.{no_times, none_later, time_of, times_at}
 use Rattle.zone_stretches.specs.Cases.{Case}
-use Rattle.zone_stretches.specs.Overlaps.{Order, ZoneTime}
+use Rattle.zone_stretches.specs.Overlaps.{ZoneTime}
 use Rattle.zone_stretches.specs.Stretches.{StretchView}
 use Rattle.zone_stretches.specs.Times.{times_from}
 
@@ -35,40 +33,6 @@ sum_past f [] zero far = refl
 sum_past f [] (suc i) far = refl
 sum_past f (x ∷ xs) zero far = absurd (omega arith)
 sum_past f (x ∷ xs) (suc i) far = sum_past f xs i (omega arith)
-
-pub counted_with_place : (before : Order) (one : ZoneTime) (job : JobView) (lists : List (List StretchView)) (place next : ℕ) → next ≡ place + 1 → place < length lists
-    → sum_by (count_of_zones before one) (times_from job lists place) ≡ count_with_place before one job lists place + sum_by (count_of_zones before one) (times_from job lists next)
-counted_with_place before one job lists place next is_next within = by_zone (slice_get (zones_in_order job) place) refl
-  where
-    next_is : next ≡ suc place
-    next_is = omega (arith, is_next)
-
-    by_zone : (o : Option ZoneLine) → slice_get (zones_in_order job) place ≡ o
-        → sum_by (count_of_zones before one) (times_from job lists place)
-        ≡ option_map_or (λ zone. count_of_zones before one (time_of lists place zone)) o 0 + sum_by (count_of_zones before one) (times_from job lists next)
-    by_zone None is =
-        rw (next_is, no_times (zones_in_order job) (drop place lists) place is, no_times (zones_in_order job) (drop (suc place) lists) (suc place) (none_later (zones_in_order job) place is)) refl
-    by_zone (Some zone) is =
-        ap (λ (times : List ZoneTime). sum_by (count_of_zones before one) times) (times_at (zones_in_order job) lists place zone within is)
-        ∙ sum_by-cons (count_of_zones before one) (time_of lists place zone) (times_from job lists (suc place))
-        ∙ ap (λ (n : ℕ). count_of_zones before one (time_of lists place zone) + sum_by (count_of_zones before one) (times_from job lists n)) (sym next_is)
-
-pub counted_from_place : (before : Order) (job : JobView) (lists : List (List StretchView)) (place next : ℕ) → next ≡ place + 1 → place < length lists
-    → count_in_times before (times_from job lists place) ≡ count_from_place before job lists place + count_in_times before (times_from job lists next)
-counted_from_place before job lists place next is_next within = by_zone (slice_get (zones_in_order job) place) refl
-  where
-    next_is : next ≡ suc place
-    next_is = omega (arith, is_next)
-
-    by_zone : (o : Option ZoneLine) → slice_get (zones_in_order job) place ≡ o
-        → count_in_times before (times_from job lists place)
-        ≡ option_map_or (λ zone. sum_by (count_of_zones before (time_of lists place zone)) (times_from job lists (place + 1))) o 0 + count_in_times before (times_from job lists next)
-    by_zone None is =
-        rw (next_is, no_times (zones_in_order job) (drop place lists) place is, no_times (zones_in_order job) (drop (suc place) lists) (suc place) (none_later (zones_in_order job) place is)) refl
-    by_zone (Some zone) is =
-        ap (count_in_times before) (times_at (zones_in_order job) lists place zone within is)
-        ∙ ap (λ (n : ℕ). sum_by (count_of_zones before (time_of lists place zone)) (times_from job lists n) + count_in_times before (times_from job lists n)) (sym next_is)
-        ∙ ap (λ (n : ℕ). sum_by (count_of_zones before (time_of lists place zone)) (times_from job lists n) + count_in_times before (times_from job lists next)) is_next
 
 -- ---- first answers
 

@@ -1,4 +1,5 @@
 pub mod Chunks
+pub mod Contexts
 pub mod Counts
 pub mod FirstAnswer
 pub mod Keeping

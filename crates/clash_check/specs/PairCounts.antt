@@ -1,13 +1,10 @@
 -- Steps. How many pairs of boxes are compared, zone by zone.
-use Rattle.std.specs.Prelude.{ℕ, ◌+◌, ◌*◌, ◌==◌, if◌then◌else◌, List, [], ◌∷◌, length, slice_get, slice_index_or, sum_by}
+use Rattle.std.specs.Prelude.{ℕ, ◌*◌, ◌==◌, if◌then◌else◌, List, length, sum_by}
 use Rattle.std.specs.List.{count_by}
-use Rattle.std.specs.Option.{option_map_or}
 pub use Rattle.clash_check.specs.Counts.{capped}
-use Rattle.job_types.specs.Job.{JobView}
-use Rattle.job_types.specs.Zones.{zones_in_order}
 use Rattle.zone_stretches.specs.Overlaps.{Order, ZoneTime, may_overlap, share_channel, share_place}
 use Rattle.zone_stretches.specs.Stretches.{StretchView}
-use Rattle.zone_stretches.specs.Times.{times_from}
+use Rattle.zone_stretches.specs.TimedZones.{TimedZoneView}
 use Rattle.zone_stretches.specs.declared.stretches.ZoneBox.{ZoneBox}
 
 -- the pairs of boxes with a place in common
@@ -31,18 +28,6 @@ count_against before others left = if length left.boxes == 0 then 0 else sum_by 
 unfoldable pub count_of_zones : Order → ZoneTime → ZoneTime → ℕ
 count_of_zones before one two = if one.zone.group == two.zone.group then 0 else sum_by (count_against before two.stretches) one.stretches
 
--- the pairs of each zone with each later one
-abbrev pub count_in_times : Order → List ZoneTime → ℕ
-count_in_times before [] = 0
-count_in_times before (one ∷ others) = sum_by (count_of_zones before one) others + count_in_times before others
-
--- the pairs of a zone with that of this place
-abbrev pub count_with_place : Order → ZoneTime → JobView → List (List StretchView) → ℕ → ℕ
-count_with_place before one job lists place =
-    option_map_or (λ zone. count_of_zones before one (record { zone = zone; stretches = slice_index_or lists place [] })) (slice_get (zones_in_order job) place) 0
-
--- the pairs of the zone of this place with each later one
-abbrev pub count_from_place : Order → JobView → List (List StretchView) → ℕ → ℕ
-count_from_place before job lists place =
-    option_map_or (λ zone. sum_by (count_of_zones before (record { zone = zone; stretches = slice_index_or lists place [] })) (times_from job lists (place + 1)))
-    (slice_get (zones_in_order job) place) 0
+-- the pairs of boxes of a pair of zones
+abbrev pub count_with : Order → TimedZoneView × TimedZoneView → ℕ
+count_with before pair = count_of_zones before pair.0.time pair.1.time

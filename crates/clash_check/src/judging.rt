@@ -9,7 +9,7 @@ ghost use Rattle.sync_types.specs.declared.verdicts.Verdict.{Verdict};
 ghost use Rattle.zone_stretches.specs.Told.{IsTold};
 ghost use Rattle.zone_stretches.specs.ZoneBoxes.{IsFit};
 
-use crate::meetings::Scene;
+use crate::contexts::Scene;
 use crate::nearby::KEPT_LIMIT;
 use crate::pair_counts::count;
 use crate::sharing::first_by_threads;

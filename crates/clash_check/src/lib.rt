@@ -1,6 +1,7 @@
 //! The verdict on a run of a job: whether two of its zones may meet, and the first two boxes that do.
 #![tactic(auto)]
 
+mod contexts;
 mod judging;
 mod meetings;
 mod nearby;

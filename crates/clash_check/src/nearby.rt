@@ -5,6 +5,7 @@ ghost use Rattle.clash_check.specs.Keeping as model;
 ghost use Rattle.swept_boxes.specs.Boxes.{boxes_meet};
 ghost use Rattle.zone_stretches.specs.declared.stretches.ZoneBox.{ZoneBox};
 
+use crate::contexts::Scene;
 use box_tree::{BoxTree, KeptTrees, do_meet};
 use out_of_memory::NoMemory;
 use passed_boxes::PassedBoxes;
@@ -156,8 +157,7 @@ pub(crate) fn next_near(
 /// Makes the memory ready for these boxes of the stretch of a place, against which so many others are held: anew where it is of another
 /// place, and with all that it may keep where a second stretch is held against this one.
 pub(crate) fn renew(
-    alloc: Global,
-    room: usize,
+    scene: &Scene,
     others: usize,
     boxes: &[ZoneBox],
     place: usize,
@@ -174,11 +174,11 @@ pub(crate) fn renew(
         0
     };
     if times == 0 {
-        memory.passed = PassedBoxes::new(alloc);
+        memory.passed = PassedBoxes::new(scene.alloc);
     }
     if times < 2 {
         let held = if times == 0 { others } else { usize::MAX };
-        memory.kept = kept_for(alloc, room, held, boxes);
+        memory.kept = kept_for(scene.alloc, scene.room, held, boxes);
     }
     memory.place = place;
     memory.times = times.saturating_add(1);

@@ -1,5 +1,5 @@
 //! How many pairs of boxes are compared.
-ghost use Rattle.std.specs.Prelude.{◌≡◌, ◌<◌, ◌+◌, ◌^◌, true, [], ◌∷◌, length, sum_by};
+ghost use Rattle.std.specs.Prelude.{◌≡◌, ◌<◌, ◌+◌, ◌^◌, true, [], ◌∷◌, All, sum_by};
 ghost use Rattle.std.specs.List.{count_by};
 ghost use Rattle.clash_check.specs.Counts.{count_of};
 ghost use Rattle.clash_check.specs.PairCounts as model;
@@ -8,18 +8,18 @@ ghost use Rattle.order_clocks.specs.Tells.{is_before_in};
 ghost use Rattle.sync_types.specs.Views.{RunView};
 ghost use Rattle.zone_stretches.specs.Ascents as orders;
 ghost use Rattle.zone_stretches.specs.Ascents.{IsTimed};
-ghost use Rattle.zone_stretches.specs.Overlaps.{ZoneTime, share_place};
-ghost use Rattle.zone_stretches.specs.Times.{lists_in, times_from};
+ghost use Rattle.zone_stretches.specs.Overlaps.{share_place};
+ghost use Rattle.zone_stretches.specs.TimedZones.{AreTimed, each_two};
 ghost use Rattle.zone_stretches.specs.Told.{IsTold};
 
 use crate::place_ranges::{do_boxes_ascend, place_range};
-use crate::running::{Boxes, boxes_before, count_in_range, mark_latest};
-use axis_sets::{CHANNEL_PLACES, ZONE_LIMIT};
-use job_types::{Job, ZoneLine};
+use crate::running::{Boxes, Sums, boxes_before, count_in_range, mark_latest};
+use axis_sets::CHANNEL_PLACES;
+use job_types::Job;
 use order_clocks::Clocks;
 use zone_stretches::{
-    Range, Stretch, Stretches, ZoneBox, ascends_at, ascents_of, lists_of, may_overlap, range_of,
-    share_channel, share_place, start_walk, zone_at,
+    Range, Stretch, Stretches, TimedZone, TimedZones, ZoneBox, may_overlap, range_of,
+    share_channel, share_place, start_walk,
 };
 
 /// With how many of these a box holds a place in common.
@@ -145,144 +145,41 @@ fn count_ascending(clocks: &Clocks, own: &[Stretch], others: &[Stretch], own_asc
         mark_latest(&mut latest, others, upto.place, range.upto);
         before = boxes_before(others, range.from, before);
         upto = boxes_before(others, range.upto, upto);
-        count = count.saturating_add(count_in_range(
-            clocks, left, others, range, before, upto, &latest,
-        ));
+        let sums = Sums {
+            before,
+            upto,
+            latest: &latest,
+        };
+        count = count.saturating_add(count_in_range(clocks, left, others, range, &sums));
     }
     count
 }
 
-/// The pairs of two zones with these stretches.
+/// The pairs of two zones.
 #[tactic(auto, unfolding(crate::specs::PairCounts::count_of_zones))]
-pub(crate) fn count_of_zones(
-    clocks: &Clocks,
-    zone: &ZoneLine,
-    own: &[Stretch],
-    own_ascends: bool,
-    other: &ZoneLine,
-    others: &[Stretch],
-    others_ascend: bool,
-) -> u64
-    requires timed { IsTimed (is_before_in clocks.now.rows) (own.now ∷ (others.now ∷ [])) }
-    requires own_ascend { own_ascends ≡ true → orders.do_ascend (is_before_in clocks.now.rows) own.now ≡ true }
-    requires others_ascend { others_ascend ≡ true → orders.do_ascend (is_before_in clocks.now.rows) others.now ≡ true }
+pub(crate) fn count_of_zones(clocks: &Clocks, left: &TimedZone, right: &TimedZone) -> u64
+    requires { AreTimed (is_before_in clocks.now.rows) (left.now, right.now) }
     ensures { result ≡ model.capped (model.count_of_zones (is_before_in clocks.now.rows)
-        (record { zone = zone.now; stretches = own.now }) (record { zone = other.now; stretches = others.now })) }
+        left.now.time right.now.time) }
 {
-    if zone.group == other.group {
+    if left.zone.group == right.zone.group {
         return 0;
     }
-    if others_ascend {
-        count_ascending(clocks, own, others, own_ascends)
+    if right.ascends {
+        count_ascending(clocks, left.stretches, right.stretches, left.ascends)
     } else {
-        count_all(clocks, own, others)
+        count_all(clocks, left.stretches, right.stretches)
     }
 }
 
-/// The pairs of a zone with that of this place.
-fn count_with_place(
-    job: &Job,
-    lists: &[Vec<Stretch>],
-    ascents: &[bool; ZONE_LIMIT],
-    clocks: &Clocks,
-    zone: &ZoneLine,
-    own: &[Stretch],
-    own_ascends: bool,
-    place: usize,
-) -> u64
-    requires place { place < length lists.now }
-    requires ascents { orders.AreAscents (is_before_in clocks.now.rows) (lists_in lists.now) ascents.now }
-    requires own_ascend { own_ascends ≡ true → orders.do_ascend (is_before_in clocks.now.rows) own.now ≡ true }
-    requires timed { IsTimed (is_before_in clocks.now.rows) (own.now ∷ lists_in lists.now) }
-    ensures { result ≡ model.capped (model.count_with_place (is_before_in clocks.now.rows)
-        (record { zone = zone.now; stretches = own.now }) job.now (lists_in lists.now) place) }
-{
-    match zone_at(job, place) {
-        None => 0,
-        Some(other) => count_of_zones(
-            clocks,
-            zone,
-            own,
-            own_ascends,
-            &other,
-            lists[place].as_slice(),
-            ascends_at(ascents, place),
-        ),
-    }
-}
-
-/// The pairs of a zone with those from this place on.
-fn count_with(
-    job: &Job,
-    lists: &[Vec<Stretch>],
-    ascents: &[bool; ZONE_LIMIT],
-    clocks: &Clocks,
-    zone: &ZoneLine,
-    own: &[Stretch],
-    own_ascends: bool,
-    from: usize,
-) -> u64
-    requires ascents { orders.AreAscents (is_before_in clocks.now.rows) (lists_in lists.now) ascents.now }
-    requires own_ascend { own_ascends ≡ true → orders.do_ascend (is_before_in clocks.now.rows) own.now ≡ true }
-    requires timed { IsTimed (is_before_in clocks.now.rows) (own.now ∷ lists_in lists.now) }
-    ensures { result ≡ model.capped (sum_by (model.count_of_zones (is_before_in clocks.now.rows)
-        (record { zone = zone.now; stretches = own.now })) (times_from job.now (lists_in lists.now) from)) }
+/// The pairs of each two of these zones, or the greatest `u64` where there are more.
+fn count_in(zones: &TimedZones, clocks: &Clocks) -> u64
+    requires { All (AreTimed (is_before_in clocks.now.rows)) (each_two zones.now) }
+    ensures { result ≡ model.capped (sum_by (model.count_with (is_before_in clocks.now.rows)) (each_two zones.now)) }
 {
     let mut count: u64 = 0;
-    for place in from..lists.len() {
-        count = count.saturating_add(count_with_place(
-            job,
-            lists,
-            ascents,
-            clocks,
-            zone,
-            own,
-            own_ascends,
-            place,
-        ));
-    }
-    count
-}
-
-/// The pairs of the zone of this place with each later one.
-fn count_from_place(
-    job: &Job,
-    lists: &[Vec<Stretch>],
-    ascents: &[bool; ZONE_LIMIT],
-    clocks: &Clocks,
-    place: usize,
-) -> u64
-    requires place { place < length lists.now }
-    requires ascents { orders.AreAscents (is_before_in clocks.now.rows) (lists_in lists.now) ascents.now }
-    requires timed { IsTimed (is_before_in clocks.now.rows) (lists_in lists.now) }
-    ensures { result ≡ model.capped (model.count_from_place (is_before_in clocks.now.rows)
-        job.now (lists_in lists.now) place) }
-{
-    match zone_at(job, place) {
-        None => 0,
-        Some(zone) => count_with(
-            job,
-            lists,
-            ascents,
-            clocks,
-            &zone,
-            lists[place].as_slice(),
-            ascends_at(ascents, place),
-            place + 1,
-        ),
-    }
-}
-
-/// The pairs of each zone with each later one, or the greatest `u64` where there are more.
-fn count_in(job: &Job, lists: &[Vec<Stretch>], clocks: &Clocks) -> u64
-    requires { IsTimed (is_before_in clocks.now.rows) (lists_in lists.now) }
-    ensures { result ≡ model.capped (model.count_in_times (is_before_in clocks.now.rows)
-        (times_from job.now (lists_in lists.now) 0)) }
-{
-    let ascents = ascents_of(clocks, lists);
-    let mut count: u64 = 0;
-    for place in 0..lists.len() {
-        count = count.saturating_add(count_from_place(job, lists, &ascents, clocks, place));
+    for pair in zones.pairs() {
+        count = count.saturating_add(count_of_zones(clocks, &pair.0, &pair.1));
     }
     count
 }
@@ -292,7 +189,8 @@ pub(crate) fn count_up_to(job: &Job, stretches: &Stretches, clocks: &Clocks) -> 
     requires { (run : RunView) × IsTold job.now run stretches.now clocks.now }
     ensures { result ≡ model.capped (count_of (is_before_in clocks.now.rows) job.now stretches.now) }
 {
-    count_in(job, lists_of(stretches), clocks)
+    let zones = TimedZones::of(job, stretches, clocks);
+    count_in(&zones, clocks)
 }
 
 /// How many pairs of boxes of zones of different groups are compared. It takes no memory.

@@ -80,6 +80,17 @@ fn is_alone(left: &Stretch, places: &[usize; CHANNEL_PLACES], from: usize) -> bo
     }
 }
 
+/// What is counted of the stretches of a zone up to the places of its stretches that may overlap one of another zone.
+#[derive(Clone, Copy)]
+pub(crate) struct Sums<'a> {
+    /// The boxes before the first of these places.
+    pub(crate) before: Boxes,
+    /// The boxes before the place after the last.
+    pub(crate) upto: Boxes,
+    /// For each channel a place after all its stretches with boxes before that place.
+    pub(crate) latest: &'a [usize; CHANNEL_PLACES],
+}
+
 /// The pairs of a stretch with those of the other zone in its range: as many as its boxes with all the boxes there, where none of
 /// these is of its channel.
 pub(crate) fn count_in_range(
@@ -87,9 +98,7 @@ pub(crate) fn count_in_range(
     left: &Stretch,
     others: &[Stretch],
     range: Range,
-    before: Boxes,
-    upto: Boxes,
-    latest: &[usize; CHANNEL_PLACES],
+    sums: &Sums,
 ) -> u64
     requires passing { (ended : Bool) → ascents.PassFirst
         (ascents.passes (is_before_in clocks.now.rows) ended left.now) others.now }
@@ -98,11 +107,14 @@ pub(crate) fn count_in_range(
         (ascents.passes (is_before_in clocks.now.rows) true left.now) others.now }
     requires upto { range.upto ≡ ascents.leading
         (ascents.passes (is_before_in clocks.now.rows) false left.now) others.now }
-    requires boxes_before { model.IsSum others.now range.from before.boxes }
-    requires boxes_upto { model.IsSum others.now range.upto upto.boxes }
-    requires latest { model.IsLatest others.now range.upto latest.now }
+    requires boxes_before { model.IsSum others.now range.from sums.now.before.boxes }
+    requires boxes_upto { model.IsSum others.now range.upto sums.now.upto.boxes }
+    requires latest { model.IsLatest others.now range.upto sums.now.latest.now }
     ensures { result ≡ counts.capped (counts.count_against (is_before_in clocks.now.rows) others.now left.now) }
 {
+    let before = sums.before;
+    let upto = sums.upto;
+    let latest = sums.latest;
     if before.boxes < u64::MAX && upto.boxes < u64::MAX && is_alone(left, latest, range.from) {
         (left.boxes.len() as u64).saturating_mul(upto.boxes.saturating_sub(before.boxes))
     } else {

@@ -1,6 +1,7 @@
 //! The pairs of zones are shared out to threads, in chunks.
 ghost use Rattle.std.specs.Prelude.{◌≡◌, ℕ, ◌*◌, ◌<◌, ◌≤◌, All, IfOk, length};
 ghost use Rattle.clash_check.specs.Chunks as model;
+ghost use Rattle.clash_check.specs.Contexts.{case_of};
 ghost use Rattle.clash_check.specs.FirstAnswer.{first_some};
 ghost use Rattle.clash_check.specs.ZonePairs.{first_of_pairs};
 ghost use Rattle.order_clocks.specs.Tells.{is_before_in};
@@ -8,7 +9,7 @@ ghost use Rattle.zone_stretches.specs.Ascents.{AreAscents, IsTimed};
 ghost use Rattle.zone_stretches.specs.Times.{lists_in};
 ghost use Rattle.zone_stretches.specs.ZoneBoxes.{IsFit};
 
-use crate::meetings::Scene;
+use crate::contexts::Scene;
 use crate::nearby::KEPT_LIMIT;
 use crate::zone_pairs::first_of_pairs;
 use axis_sets::ZONE_LIMIT;
@@ -55,6 +56,7 @@ struct Zones<'a, 'b> {
 
 impl Seeks for Zones<'_, '_> {
     ghost use Rattle.std.specs.Prelude.{◌*◌, ◌≤◌, All};
+    ghost use Rattle.clash_check.specs.Contexts.{case_of};
     ghost use Rattle.clash_check.specs.ZonePairs.{first_of_pairs};
     ghost use Rattle.clash_check.specs.declared.nearby.TheConstants.{KEPT_LIMIT};
     ghost use Rattle.order_clocks.specs.Tells.{is_before_in};
@@ -68,12 +70,7 @@ impl Seeks for Zones<'_, '_> {
 
     ghost has_room = { λ zones count. zones.scene.room * count ≤ KEPT_LIMIT };
 
-    ghost found = { λ zones pairs. first_of_pairs
-        (record {
-          job = zones.scene.job.now;
-          run = zones.scene.run.now;
-          before = is_before_in zones.scene.clocks.now.rows;
-        }) (lists_in zones.lists.now) pairs };
+    ghost found = { λ zones pairs. first_of_pairs (case_of zones.scene) (lists_in zones.lists.now) pairs };
 
     fn seek(&self, pairs: &[(usize, usize)]) -> Option<(PlaceName, PlaceName)> {
         first_of_pairs(&self.scene, self.lists, self.ascents, pairs)
@@ -158,7 +155,7 @@ fn seek_by_threads<R: Threads + Sync>(
     requires ascents { AreAscents (is_before_in scene.now.clocks.now.rows) (lists_in lists.now) ascents.now }
     requires room { scene.now.room ≤ KEPT_LIMIT }
     ensures { IfOk result (λ names. names ≡ first_of_pairs
-        (record { job = scene.now.job.now; run = scene.now.run.now; before = is_before_in scene.now.clocks.now.rows })
+        (case_of scene.now)
         (lists_in lists.now) pairs.now) }
 {
     let count = pairs.len();
@@ -192,11 +189,7 @@ pub(crate) fn first_by_threads<R: Threads + Sync>(
     requires timed { IsTimed (is_before_in scene.now.clocks.now.rows) (lists_in lists.now) }
     requires ascents { AreAscents (is_before_in scene.now.clocks.now.rows) (lists_in lists.now) ascents.now }
     requires room { scene.now.room ≤ KEPT_LIMIT }
-    ensures { result ≡ first_of_pairs (record {
-      job = scene.now.job.now;
-      run = scene.now.run.now;
-      before = is_before_in scene.now.clocks.now.rows;
-    }) (lists_in lists.now) pairs.now }
+    ensures { result ≡ first_of_pairs (case_of scene.now) (lists_in lists.now) pairs.now }
 {
     match seek_by_threads(rt, scene, lists, ascents, pairs) {
         Ok(names) => names,

@@ -1,17 +1,19 @@
 //! The pairs of zones, and the first two boxes of some of these pairs that meet.
 ghost use Rattle.std.specs.Prelude.{◌≡◌, ℕ, ◌+◌, ◌-◌, ◌<◌, [], ◌++◌, All, IfOk, length, slice_index_or};
+ghost use Rattle.clash_check.specs.Contexts.{case_of};
 ghost use Rattle.clash_check.specs.ZonePairs as model;
 ghost use Rattle.order_clocks.specs.Tells.{is_before_in};
 ghost use Rattle.zone_stretches.specs.Ascents.{AreAscents, IsTimed};
 ghost use Rattle.zone_stretches.specs.Times.{lists_in};
 ghost use Rattle.zone_stretches.specs.ZoneBoxes.{IsFit};
 
-use crate::meetings::{Scene, first_of_zones};
+use crate::contexts::Scene;
+use crate::meetings::first_of_zones;
 use axis_sets::ZONE_LIMIT;
 use out_of_memory::NoMemory;
 use std::alloc::Global;
 use sync_types::PlaceName;
-use zone_stretches::{Stretch, ascends_at, zone_at};
+use zone_stretches::{Stretch, TimedZone, ascends_at, zone_at};
 
 /// Appends the pairs of the zone of a place with each later one, of so many.
 fn push_pairs(pairs: &mut Vec<(usize, usize)>, place: usize, count: usize) -> Result<(), NoMemory>
@@ -57,11 +59,7 @@ fn first_of_pair(
     requires fit { All (All IsFit) scene.now.run.now.items }
     requires timed { IsTimed (is_before_in scene.now.clocks.now.rows) (lists_in lists.now) }
     requires ascents { AreAscents (is_before_in scene.now.clocks.now.rows) (lists_in lists.now) ascents.now }
-    ensures { result ≡ model.first_of_pair (record {
-      job = scene.now.job.now;
-      run = scene.now.run.now;
-      before = is_before_in scene.now.clocks.now.rows;
-    }) (lists_in lists.now) pair }
+    ensures { result ≡ model.first_of_pair (case_of scene.now) (lists_in lists.now) pair }
 {
     let (place, later) = pair;
     match zone_at(scene.job, place) {
@@ -73,15 +71,17 @@ fn first_of_pair(
                 let others = stretches_at(lists, later);
                 let own_ascends = ascends_at(ascents, place);
                 let others_ascend = ascends_at(ascents, later);
-                first_of_zones(
-                    scene,
-                    &zone,
-                    own,
-                    own_ascends,
-                    &other,
-                    others,
-                    others_ascend,
-                )
+                let left = TimedZone {
+                    zone,
+                    stretches: own,
+                    ascends: own_ascends,
+                };
+                let right = TimedZone {
+                    zone: other,
+                    stretches: others,
+                    ascends: others_ascend,
+                };
+                first_of_zones(scene, &left, &right)
             }
         },
     }
@@ -97,11 +97,7 @@ pub(crate) fn first_of_pairs(
     requires fit { All (All IsFit) scene.now.run.now.items }
     requires timed { IsTimed (is_before_in scene.now.clocks.now.rows) (lists_in lists.now) }
     requires ascents { AreAscents (is_before_in scene.now.clocks.now.rows) (lists_in lists.now) ascents.now }
-    ensures { result ≡ model.first_of_pairs (record {
-      job = scene.now.job.now;
-      run = scene.now.run.now;
-      before = is_before_in scene.now.clocks.now.rows;
-    }) (lists_in lists.now) pairs.now }
+    ensures { result ≡ model.first_of_pairs (case_of scene.now) (lists_in lists.now) pairs.now }
 {
     for pair in pairs {
         if let Some(names) = first_of_pair(scene, lists, ascents, *pair) {

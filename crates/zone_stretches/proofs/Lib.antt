@@ -18,3 +18,4 @@ pub mod ChainLaws
 pub mod NearLaws
 pub mod TimeLaws
 pub mod WalkLaws
+pub mod TimedLaws

@@ -3,15 +3,11 @@ use Rattle.std.proofs.Common.{◌≡◌, ◌∙◌, ℕ, ◌+◌, ◌-◌, ◌<�
 use Rattle.std.proofs.lemmas.Bool.{cases_lt, cases_eq}
 use Rattle.std.proofs.lemmas.List.Elements.{All-head, All-tail}
 use Rattle.std.proofs.lemmas.List.{get_or_default, get_or_past, get_or-replicate, get_or-set_same, get_or-set_other, length-replicate}
-use Rattle.std.specs.Global.{Global}
-use Rattle.std.specs.Prelude.{Vec}
 use Rattle.zone_stretches.proofs.ChainLaws.{leading_grows, leading_within}
-use Rattle.zone_stretches.proofs.TimeLaws.{list_at}
 use Rattle.zone_stretches.specs.Ascents.{leading, passes, do_ascend, place_in, AreAscents, IsTimed, IsWalk}
 use Rattle.zone_stretches.specs.Overlaps.{Order}
 use Rattle.zone_stretches.specs.SoundStretches.{HasLowNames}
 use Rattle.zone_stretches.specs.Stretches.{StretchView}
-use Rattle.zone_stretches.specs.Times.{lists_in}
 use Rattle.zone_stretches.specs.declared.ascents.Range.{Range}
 use Rattle.zone_stretches.specs.declared.ascents.Walk.{Walk}
 
@@ -111,8 +107,3 @@ marked before lists ascents place mark within is known k = by_place (cases_eq k 
         subst (λ (n : ℕ). do_ascend before (get_or lists n []) ≡ true) (sym same)
         (sym is ∙ sym (get_or-set_same ascents place mark false within) ∙ ap (λ (n : ℕ). get_or (set ascents place mark) n false) (sym same) ∙ on)
     by_place (inr other) on = known k (sym (get_or-set_other ascents place k mark false other) ∙ on)
-
-pub ascends_there : (before : Order) (lists : List (Vec StretchView Global)) (ascents : List Bool) (place : ℕ) (v : Vec StretchView Global) (part : List StretchView) (mark : Bool) → place < length lists
-    → v ≡ get_or lists place v → part ≡ v.items → AreAscents before (lists_in lists) ascents → mark ≡ get_or ascents place false → mark ≡ true → do_ascend before part ≡ true
-ascends_there before lists ascents place v part mark within is part_is known mark_is on =
-    subst (λ (xs : List StretchView). do_ascend before xs ≡ true) (list_at lists place v within is ∙ sym part_is) (known place (sym mark_is ∙ on))

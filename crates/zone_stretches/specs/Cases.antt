@@ -5,6 +5,7 @@ use Rattle.sync_types.specs.Views.{RunView}
 use Rattle.zone_stretches.specs.Overlaps.{BoxPlace, Order}
 use Rattle.zone_stretches.specs.Stretches.{StretchView}
 use Rattle.zone_stretches.specs.declared.stretches.ZoneBox.{ZoneBox}
+use Rattle.zone_stretches.specs.declared.timed_zones.ZoneStretch.{ZoneStretch}
 
 -- a job, a run of it, and the order of its events
 pub record Case : Type 0 where
@@ -14,3 +15,7 @@ pub record Case : Type 0 where
 
 abbrev pub place_of : ZoneLine → StretchView → ZoneBox → BoxPlace
 place_of zone stretch box = record { zone = zone; stretch = stretch; box = box }
+
+-- a box of a stretch
+abbrev pub box_of : ZoneStretch → ZoneBox → BoxPlace
+box_of held box = place_of held.zone.now held.stretch.now box

@@ -3,6 +3,7 @@ pub mod Spans
 pub mod Tenures
 pub mod ZoneBoxes
 pub mod Stretches
+pub mod TimedZones
 pub mod Told
 pub mod Overlaps
 pub mod Cases

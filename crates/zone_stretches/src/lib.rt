@@ -9,6 +9,7 @@ mod pieces;
 mod sights;
 mod stretches;
 mod threads;
+mod timed_zones;
 mod zone_boxes;
 mod zones;
 
@@ -23,5 +24,6 @@ pub use overlaps::{are_compared, is_of, may_overlap, share_channel, share_place}
 pub use pieces::{boxes_by_pieces, boxes_in_pieces, motion_at, one_box};
 pub use sights::Sight;
 pub use stretches::{Stretch, Stretches, ZoneBox, lists_of};
+pub use timed_zones::{TimedPairs, TimedZone, TimedZones, ZoneStretch};
 pub use zone_boxes::{standing_zone_box, zone_box};
 pub use zones::zone_at;

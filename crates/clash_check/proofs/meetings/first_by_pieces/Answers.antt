@@ -13,12 +13,12 @@ use Rattle.clash_check.proofs.meetings.first_by_pieces.Goals as goal
 
 pub returns-then-pieces_touch-clause-names : goal.returns-then-pieces_touch-clause-names
 returns-then-pieces_touch-clause-names c =
-    let case : Case = record { job = c.args.scene.now.job.now; run = c.args.scene.now.run.now; before = is_before_in c.args.scene.now.clocks.now.rows } in
+    let case : Case = record { job = c.args.two.now.scene.now.job.now; run = c.args.two.now.scene.now.run.now; before = is_before_in c.args.two.now.scene.now.clocks.now.rows } in
     let met : ZoneBox → Option Names =
-    λ later. names_where_met case c.args.shared (place_of c.args.left.now.zone.now c.args.left.now.stretch.now c.args.own.now) (place_of c.args.right.now.zone.now c.args.right.now.stretch.now later) in
+    λ later. names_where_met case c.args.two.now.shared (place_of c.args.two.now.left.now.zone.now c.args.two.now.left.now.stretch.now c.args.own.now.whole.now) (place_of c.args.two.now.right.now.zone.now c.args.two.now.right.now.stretch.now later) in
     let here =
-    named_met case c.args.shared (place_of c.args.left.now.zone.now c.args.left.now.stretch.now c.args.own.now) c.args.right.now.zone.now c.args.right.now.stretch.now c.args.boxes.now c.loop-place.place no_box _
-    c.args.pieces.now c.pieces_touch.result c.named.result c.named-then-pieces_touch.result c.loop-place-test.true c.requires.pieces (c.loop-place.invariant.near no_box c.loop-place-test.true)
+    named_met case c.args.two.now.shared (place_of c.args.two.now.left.now.zone.now c.args.two.now.left.now.stretch.now c.args.own.now.whole.now) c.args.two.now.right.now.zone.now c.args.two.now.right.now.stretch.now c.args.boxes.now c.loop-place.place no_box _
+    c.args.own.now.pieces.now c.pieces_touch.result c.named.result c.named-then-pieces_touch.result c.loop-place-test.true c.requires.pieces (c.loop-place.invariant.near no_box c.loop-place-test.true)
     (c.pieces_touch.ensures.met no_box) c.if-pieces_touch.true c.named.ensures c.named-then-pieces_touch.ensures in
     sym (first_some-drop_more met c.args.boxes.now c.loop-place.place (get_or c.args.boxes.now c.loop-place.place no_box) c.loop-place-test.true
     (get_or_default c.args.boxes.now c.loop-place.place no_box (get_or c.args.boxes.now c.loop-place.place no_box) c.loop-place-test.true)
@@ -27,15 +27,15 @@ returns-then-pieces_touch-clause-names c =
 
 pub loop-place-preserved : goal.loop-place-preserved
 loop-place-preserved c =
-    let case : Case = record { job = c.args.scene.now.job.now; run = c.args.scene.now.run.now; before = is_before_in c.args.scene.now.clocks.now.rows } in
+    let case : Case = record { job = c.args.two.now.scene.now.job.now; run = c.args.two.now.scene.now.run.now; before = is_before_in c.args.two.now.scene.now.clocks.now.rows } in
     record {
       within = c.next_near-place.ensures.within;
       near = c.next_near-place.ensures.near;
       kept = c.pieces_touch.ensures.kept;
       names =
-          sym (one_and_near case c.args.shared (place_of c.args.left.now.zone.now c.args.left.now.stretch.now c.args.own.now) c.args.right.now.zone.now c.args.right.now.stretch.now c.args.boxes.now
+          sym (one_and_near case c.args.two.now.shared (place_of c.args.two.now.left.now.zone.now c.args.two.now.left.now.stretch.now c.args.own.now.whole.now) c.args.two.now.right.now.zone.now c.args.two.now.right.now.stretch.now c.args.boxes.now
           c.loop-place.place c.next_near-place.result no_box None c.loop-place-test.true c.next_near-place.ensures.on c.next_near-place.ensures.far
-          (not_named case c.args.shared (place_of c.args.left.now.zone.now c.args.left.now.stretch.now c.args.own.now) c.args.right.now.zone.now c.args.right.now.stretch.now c.args.boxes.now c.loop-place.place no_box
-          c.args.pieces.now c.pieces_touch.result c.requires.pieces (c.loop-place.invariant.near no_box c.loop-place-test.true) (c.pieces_touch.ensures.met no_box) c.if-pieces_touch.false))
+          (not_named case c.args.two.now.shared (place_of c.args.two.now.left.now.zone.now c.args.two.now.left.now.stretch.now c.args.own.now.whole.now) c.args.two.now.right.now.zone.now c.args.two.now.right.now.stretch.now c.args.boxes.now c.loop-place.place no_box
+          c.args.own.now.pieces.now c.pieces_touch.result c.requires.pieces (c.loop-place.invariant.near no_box c.loop-place-test.true) (c.pieces_touch.ensures.met no_box) c.if-pieces_touch.false))
           ∙ c.loop-place.invariant.names;
     }

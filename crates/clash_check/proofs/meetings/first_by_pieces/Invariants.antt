@@ -11,12 +11,12 @@ abbrev pub invariant-loop-place : goal.invariant-loop-place
 invariant-loop-place l =
     record {
       within : l.place ≤ length l.boxes;
-      near : (d : ZoneBox) → l.place < length l.boxes → is_near l.shared l.own (get_or l.boxes l.place d) ≡ true;
-      kept : IsKeptOf l.scene.job.now l.scene.run.now l.right.zone.now l.right.stretch.now l.boxes l.kept;
-      names : first_some (λ later. model.names_where_met (record { job = l.scene.job.now; run = l.scene.run.now; before = is_before_in l.scene.clocks.now.rows }) l.shared
-          (place_of l.left.zone.now l.left.stretch.now l.own) (place_of l.right.zone.now l.right.stretch.now later)) (drop l.place l.boxes)
-          ≡ first_some (λ later. model.names_where_met (record { job = l.scene.job.now; run = l.scene.run.now; before = is_before_in l.scene.clocks.now.rows }) l.shared
-          (place_of l.left.zone.now l.left.stretch.now l.own) (place_of l.right.zone.now l.right.stretch.now later)) (drop l.from l.boxes);
+      near : (d : ZoneBox) → l.place < length l.boxes → is_near l.two.shared l.own.whole.now (get_or l.boxes l.place d) ≡ true;
+      kept : IsKeptOf l.two.scene.now.job.now l.two.scene.now.run.now l.two.right.now.zone.now l.two.right.now.stretch.now l.boxes l.kept;
+      names : first_some (λ later. model.names_where_met (record { job = l.two.scene.now.job.now; run = l.two.scene.now.run.now; before = is_before_in l.two.scene.now.clocks.now.rows }) l.two.shared
+          (place_of l.two.left.now.zone.now l.two.left.now.stretch.now l.own.whole.now) (place_of l.two.right.now.zone.now l.two.right.now.stretch.now later)) (drop l.place l.boxes)
+          ≡ first_some (λ later. model.names_where_met (record { job = l.two.scene.now.job.now; run = l.two.scene.now.run.now; before = is_before_in l.two.scene.now.clocks.now.rows }) l.two.shared
+          (place_of l.two.left.now.zone.now l.two.left.now.stretch.now l.own.whole.now) (place_of l.two.right.now.zone.now l.two.right.now.stretch.now later)) (drop l.from l.boxes);
     }
 
 abbrev pub decreases-loop-place : goal.decreases-loop-place

@@ -16,13 +16,13 @@ loop-own-init c = record {
     | inl fresh ↦ record {
       covers = subst (λ (boxes : List ZoneBox). IsRowOf (Covers boxes) c.renew.new.memory.kept.covers) (c.deref.ensures.value ∙ ap (λ (s : StretchView). s.boxes) c.other.view_is) fresh.0;
       pieces =
-          no_rows c.args.scene.now.job.now c.args.scene.now.run.now c.args.right.now.zone.now c.args.right.now.stretch.now c.args.right.now.stretch.now.boxes c.renew.new.memory.kept.pieces.rows fresh.1;
+          no_rows c.args.two.now.scene.now.job.now c.args.two.now.scene.now.run.now c.args.two.now.right.now.zone.now c.args.two.now.right.now.stretch.now c.args.two.now.right.now.stretch.now.boxes c.renew.new.memory.kept.pieces.rows fresh.1;
     }
-    | inr same ↦ subst (λ (kept : Kept). IsKeptOf c.args.scene.now.job.now c.args.scene.now.run.now c.args.right.now.zone.now c.args.right.now.stretch.now c.args.right.now.stretch.now.boxes kept) (sym same.1) (c.requires.memory same.0).kept
+    | inr same ↦ subst (λ (kept : Kept). IsKeptOf c.args.two.now.scene.now.job.now c.args.two.now.scene.now.run.now c.args.two.now.right.now.zone.now c.args.two.now.right.now.stretch.now c.args.two.now.right.now.stretch.now.boxes kept) (sym same.1) (c.requires.memory same.0).kept
   ];
   passed = elim c.renew.ensures.passed [
-    | inl none ↦ none_passed c.args.scene.now.job.now c.args.scene.now.run.now c.args.left.now.zone.now c.args.right.now.zone.now c.args.right.now.stretch.now c.args.right.now.stretch.now.boxes c.renew.new.memory.passed none
-    | inr same ↦ subst (λ (passed : List PassedBox). ArePassed c.args.scene.now.job.now c.args.scene.now.run.now c.args.left.now.zone.now c.args.right.now.zone.now c.args.right.now.stretch.now c.args.right.now.stretch.now.boxes passed) (sym same.1) (c.requires.memory same.0).passed
+    | inl none ↦ none_passed c.args.two.now.scene.now.job.now c.args.two.now.scene.now.run.now c.args.two.now.left.now.zone.now c.args.two.now.right.now.zone.now c.args.two.now.right.now.stretch.now c.args.two.now.right.now.stretch.now.boxes c.renew.new.memory.passed none
+    | inr same ↦ subst (λ (passed : List PassedBox). ArePassed c.args.two.now.scene.now.job.now c.args.two.now.scene.now.run.now c.args.two.now.left.now.zone.now c.args.two.now.right.now.zone.now c.args.two.now.right.now.stretch.now c.args.two.now.right.now.stretch.now.boxes passed) (sym same.1) (c.requires.memory same.0).passed
   ];
   at = c.renew.ensures.place;
   names = refl;

@@ -8,7 +8,7 @@ use Rattle.clash_check.proofs.meetings.first_of_ascending.Given as goal
 
 abbrev pub invariant-loop-stretch : goal.invariant-loop-stretch
 invariant-loop-stretch l =
-    (first_some (model.first_against (record { job = l.scene.job.now; run = l.scene.run.now; before = is_before_in l.scene.clocks.now.rows }) l.zone (record { zone = l.other; stretches = l.others })) (drop l.stretch-index l.own)
-    ≡ first_some (model.first_against (record { job = l.scene.job.now; run = l.scene.run.now; before = is_before_in l.scene.clocks.now.rows }) l.zone (record { zone = l.other; stretches = l.others })) l.own)
-    × IsMemoryOfAny l.scene.job.now l.scene.run.now l.zone l.other l.others l.memory
-    × IsWalk (is_before_in l.scene.clocks.now.rows) l.own l.others l.stretch-index l.walk
+    (first_some (model.first_against (record { job = l.scene.job.now; run = l.scene.run.now; before = is_before_in l.scene.clocks.now.rows }) l.zone (record { zone = l.other.zone.now; stretches = l.other.stretches.now })) (drop l.stretch-index l.own)
+    ≡ first_some (model.first_against (record { job = l.scene.job.now; run = l.scene.run.now; before = is_before_in l.scene.clocks.now.rows }) l.zone (record { zone = l.other.zone.now; stretches = l.other.stretches.now })) l.own)
+    × IsMemoryOfAny l.scene.job.now l.scene.run.now l.zone l.other.zone.now l.other.stretches.now l.memory
+    × IsWalk (is_before_in l.scene.clocks.now.rows) l.own l.other.stretches.now l.stretch-index l.walk

@@ -6,6 +6,6 @@ pub returns-clause-kept : goal.returns-clause-kept
 returns-clause-kept c = record {
   covers = c.requires.kept.covers;
   pieces =
-      rows_more c.args.scene.now.job.now c.args.scene.now.run.now c.args.held.now.zone.now c.args.held.now.stretch.now c.args.boxes.now c.args.kept.now.pieces.rows c.keep.new.self.rows c.args.place _
+      rows_more c.args.two.now.scene.now.job.now c.args.two.now.scene.now.run.now c.args.two.now.right.now.zone.now c.args.two.now.right.now.stretch.now c.args.boxes.now c.args.kept.now.pieces.rows c.keep.new.self.rows c.args.place _
       c.over-others.result c.requires.place (c.over-others.ensures ∙ c.boxes_by_pieces-made.ensures) c.requires.kept.pieces c.keep.ensures.place c.keep.ensures.others;
 }

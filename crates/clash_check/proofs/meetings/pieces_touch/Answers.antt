@@ -13,7 +13,7 @@ passed m a x p on = rw (sym p ∙ on) refl
 
 pub returns-in-Some-clause-met : goal.returns-in-Some-clause-met
 returns-in-Some-clause-met c d =
-    let others : List Box3 = piece_boxes c.args.scene.now.job.now c.args.scene.now.run.now (place_of c.args.held.now.zone.now c.args.held.now.stretch.now (get_or c.args.boxes.now c.args.place d)) in
+    let others : List Box3 = piece_boxes c.args.two.now.scene.now.job.now c.args.two.now.scene.now.run.now (place_of c.args.two.now.right.now.zone.now c.args.two.now.right.now.stretch.now (get_or c.args.boxes.now c.args.place d)) in
     c.in-Some.ensures.met others (c.requires.kept.pieces c.args.place d c.requires.place)
     ∙ passed c.meets_box.result (list_any (λ piece. boxes_meet piece (get_or c.args.boxes.now c.args.place d).cover) c.args.pieces.now) _
     (c.meets_box.ensures ∙ ap (λ (b : ZoneBox). list_any (λ piece. boxes_meet piece b.cover) c.args.pieces.now) (get_or_default c.args.boxes.now c.args.place _ d c.requires.place)) c.if-not-meets_box.false

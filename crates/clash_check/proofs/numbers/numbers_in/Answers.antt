@@ -1,22 +1,20 @@
-use Rattle.std.proofs.Common.{◌∙◌, ◌+◌, List, ◌++◌, refl, sym, ap, arith}
-use Rattle.std.proofs.lemmas.List.{append-nil}
+use Rattle.std.proofs.Common.{◌∙◌, List, ◌++◌, All, ap, subst}
+use Rattle.std.specs.List.{flat_map}
+use Rattle.std.proofs.lemmas.List.Elements.{All-tail}
 use Rattle.order_clocks.specs.Tells.{is_before_in}
-use Rattle.clash_check.proofs.NumberLaws.{added_part, numbers_from_left}
-use Rattle.zone_stretches.proofs.TimeLaws.{no_times_left, past_lists, within_lists}
-use Rattle.clash_check.specs.NumberSteps.{numbers_in_times}
-use Rattle.zone_stretches.specs.Times.{lists_in}
-use Rattle.zone_stretches.specs.Overlaps.{ZoneTime}
+use Rattle.clash_check.proofs.NumberLaws.{added_part}
+use Rattle.clash_check.specs.NumberSteps.{row_with}
+use Rattle.clash_check.specs.PairNumbers.{some_number}
+use Rattle.clash_check.specs.declared.numbers.PairNumber.{PairNumber}
+use Rattle.zone_stretches.specs.Overlaps.{Order}
+use Rattle.zone_stretches.specs.TimedZones.{AreTimed, TimedZoneView}
 use Rattle.clash_check.proofs.numbers.numbers_in.Goals as goal
 
-pub loop-place-preserved : goal.loop-place-preserved
-loop-place-preserved c =
-    added_part c.loop-place.rows.items c.add_from_place.new.rows.items _ _ _ _ c.in_ok-add_from_place.ensures
-    (numbers_from_left (is_before_in c.args.clocks.now.rows) c.args.job.now (lists_in c.args.lists.now) c.loop-place.place (c.loop-place.place + 1) refl (within_lists c.args.lists.now c.loop-place.place (omega arith)))
-    c.loop-place.invariant
-
-pub returns : goal.returns
-returns c =
-    sym (append-nil c.loop-place.rows.items)
-    ∙ ap (λ (times : List ZoneTime). c.loop-place.rows.items ++ numbers_in_times (is_before_in c.args.clocks.now.rows) times)
-    (sym (no_times_left c.args.job.now (lists_in c.args.lists.now) c.loop-place.place (past_lists c.args.lists.now c.loop-place.place (omega arith))))
-    ∙ c.loop-place.invariant
+pub loop-pair-preserved : goal.loop-pair-preserved
+loop-pair-preserved c =
+    let before : Order = is_before_in c.args.clocks.now.rows in (
+      All-tail (AreTimed before) c.in-Some.pair c.next.new.self (subst (λ (pairs : List (TimedZoneView × TimedZoneView)). All (AreTimed before) pairs) c.in-Some.ensures.steps c.loop-pair.invariant.0),
+      added_part c.loop-pair.rows.items c.add_some.new.rows.items _ _ _ _
+          (c.in_ok-add_some.ensures ∙ ap (λ (row : PairNumber). c.loop-pair.rows.items ++ some_number row) c.number_with.ensures)
+          (ap (flat_map (row_with before)) c.in-Some.ensures.steps) c.loop-pair.invariant.1,
+    )

@@ -1,9 +1,11 @@
-use Rattle.std.proofs.Common.{◌≡◌, ◌++◌}
-use Rattle.clash_check.specs.NumberSteps.{numbers_in_times}
+use Rattle.std.proofs.Common.{◌≡◌, ◌++◌, All}
+use Rattle.std.specs.List.{flat_map}
 use Rattle.order_clocks.specs.Tells.{is_before_in}
-use Rattle.zone_stretches.specs.Times.{lists_in, times_from}
+use Rattle.clash_check.specs.NumberSteps.{row_with}
+use Rattle.zone_stretches.specs.TimedZones.{AreTimed, each_two}
 use Rattle.clash_check.proofs.numbers.numbers_in.Given as goal
 
-abbrev pub invariant-loop-place : goal.invariant-loop-place
-invariant-loop-place l =
-    l.rows.items ++ numbers_in_times (is_before_in l.clocks.rows) (times_from l.job (lists_in l.lists) l.place) ≡ numbers_in_times (is_before_in l.clocks.rows) (times_from l.job (lists_in l.lists) 0)
+abbrev pub invariant-loop-pair : goal.invariant-loop-pair
+invariant-loop-pair l =
+    All (AreTimed (is_before_in l.clocks.rows)) l.pair-iterator
+    × (l.rows.items ++ flat_map (row_with (is_before_in l.clocks.rows)) l.pair-iterator ≡ flat_map (row_with (is_before_in l.clocks.rows)) (each_two l.fn.zones))
