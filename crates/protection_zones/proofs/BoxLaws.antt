@@ -7,8 +7,8 @@ use Rattle.job_types.specs.declared.job.ZoneLine.{ZoneLine}
 use Rattle.protection_zones.specs.Sweeps.{standing_box, moving_box, box_until, ended_before, opened_after, sweep, opened_at_first}
 use Rattle.sync_types.specs.declared.Item.{Item}
 use Rattle.zone_stretches.specs.ZoneBoxes.{stand_after, Opened, Shut, Waiting, Moving, closed, closed_before, next_open, walk, boxes_of, seen, shown_box}
-use Rattle.zone_stretches.specs.declared.sights.Sight.{Sight}
-use Rattle.zone_stretches.specs.declared.sights.Sight.TheVariants.{Nothing, Turns, Moves}
+use Rattle.zone_stretches.specs.declared.sights.ZoneEffect.{ZoneEffect}
+use Rattle.zone_stretches.specs.declared.sights.ZoneEffect.TheVariants.{Nothing, Turns, Moves}
 use Rattle.zone_stretches.specs.declared.stretches.ZoneBox.{ZoneBox}
 
 -- what is open, as the code has it
@@ -23,7 +23,7 @@ shown_closed margin zone to Shut = refl
 shown_closed margin zone to (Waiting from line at) = refl
 shown_closed margin zone to (Moving from place item at) = refl
 
-shown_ended : (margin : ℤ) (zone : ZoneLine) (to : ℕ) (o : Opened) (sight : Sight) → map (shown_box margin zone) (closed_before to o sight) ≡ option_to_list (ended_before to (shown_open margin zone o) sight)
+shown_ended : (margin : ℤ) (zone : ZoneLine) (to : ℕ) (o : Opened) (sight : ZoneEffect) → map (shown_box margin zone) (closed_before to o sight) ≡ option_to_list (ended_before to (shown_open margin zone o) sight)
 unfolding shown_box standing_box moving_box
 shown_ended margin zone to Shut Nothing = refl
 shown_ended margin zone to Shut (Turns true) = refl
@@ -38,7 +38,7 @@ shown_ended margin zone to (Moving from place item at) (Turns true) = refl
 shown_ended margin zone to (Moving from place item at) (Turns false) = refl
 shown_ended margin zone to (Moving from place item at) Moves = refl
 
-shown_next : (margin : ℤ) (zone : ZoneLine) (place : ℕ) (at : ℕ → ℤ) (item : Item) (o : Opened) (sight : Sight)
+shown_next : (margin : ℤ) (zone : ZoneLine) (place : ℕ) (at : ℕ → ℤ) (item : Item) (o : Opened) (sight : ZoneEffect)
     → shown_open margin zone (next_open place at item o sight) ≡ opened_after margin zone place at item (shown_open margin zone o) sight
 unfolding standing_box moving_box
 shown_next margin zone place at item Shut Nothing = refl

@@ -14,18 +14,18 @@ use Rattle.job_types.specs.Axes.{start_position}
 use Rattle.job_types.specs.Job.{JobView}
 use Rattle.job_types.specs.declared.job.ZoneLine.{ZoneLine}
 use Rattle.protection_zones.specs.Beginnings.{AreOutsets, beginnings_from, end_of, first_in, items_until, outsets_in, shown_outset, span_at, spans_along}
-use Rattle.zone_stretches.specs.Occurrences.{Occurrence}
+use Rattle.zone_stretches.specs.Occurrences.{OccurrenceView}
 use Rattle.zone_stretches.specs.Rows.{positions_in}
 use Rattle.zone_stretches.specs.Stretches.{spans_between, spans_until, stretch_of_span}
-use Rattle.zone_stretches.specs.Spans.{Beginning, Span, beginning_after, first_beginning, is_on_at_first, spans_from, spans_of, starts_at_first}
-use Rattle.protection_zones.specs.declared.spans.Outset.{Outset}
+use Rattle.zone_stretches.specs.Spans.{SpanStartView, Span, beginning_after, first_beginning, is_on_at_first, spans_from, spans_of, starts_at_first}
+use Rattle.protection_zones.specs.declared.spans.SpanStart.{SpanStart}
 use Rattle.sync_types.specs.declared.Item.{Item}
 use Rattle.sync_types.specs.declared.runs.EventId.{EventId}
 use Rattle.sync_types.specs.declared.verdicts.StretchKind.{StretchKind}
 use Rattle.sync_types.specs.declared.verdicts.StretchKind.TheVariants.{Idle, Run}
 
 -- how the time after an event begins
-pub outset_told : (before : Outset) (o : Occurrence) (kind : StretchKind) (line : ℕ) (at : List ℤ) (on : List Bool) (name : EventId) → kind ≡ o.kind → name ≡ o.name → on ≡ o.on → line ≡ unwrap_or o.line before.line
+pub outset_told : (before : SpanStart) (o : OccurrenceView) (kind : StretchKind) (line : ℕ) (at : List ℤ) (on : List Bool) (name : EventId) → kind ≡ o.kind → name ≡ o.name → on ≡ o.on → line ≡ unwrap_or o.line before.line
     → ((axis : ℕ) → positions_in at axis ≡ unwrap_or (position_of o.at axis) (positions_in before.at axis))
     → shown_outset (record { kind = kind; line = line; at = at; on = on; first = Some name }) ≡ beginning_after (shown_outset before) o
 outset_told before o kind line at on name kind_is name_is on_is line_is stands =
@@ -42,19 +42,19 @@ first_told job c starts at on starts_is stands turned kind is =
     rw (is, starts_is, at_is, on_is) refl
 
 -- how many times there are, and one event more
-beginnings_size : (b : Beginning) (os : List Occurrence) → length (beginnings_from b os) ≡ suc (length os)
+beginnings_size : (b : SpanStartView) (os : List OccurrenceView) → length (beginnings_from b os) ≡ suc (length os)
 beginnings_size b [] = refl
 beginnings_size b (o ∷ os) = ap suc (beginnings_size (beginning_after b o) os)
 
-beginnings_last : (b : Beginning) (os : List Occurrence) (o : Occurrence) (d : Beginning)
+beginnings_last : (b : SpanStartView) (os : List OccurrenceView) (o : OccurrenceView) (d : SpanStartView)
     → beginnings_from b (os ++ o ∷ []) ≡ beginnings_from b os ++ beginning_after (get_or (beginnings_from b os) (length os) d) o ∷ []
 beginnings_last b [] o d = refl
 beginnings_last b (p ∷ os) o d = ap (λ (rest : List _). b ∷ rest) (beginnings_last (beginning_after b p) os o d)
 
-pub outsets_size : (b : Beginning) (os : List Occurrence) (outsets : List Outset) → map shown_outset outsets ≡ beginnings_from b os → length outsets ≡ suc (length os)
+pub outsets_size : (b : SpanStartView) (os : List OccurrenceView) (outsets : List SpanStart) → map shown_outset outsets ≡ beginnings_from b os → length outsets ≡ suc (length os)
 outsets_size b os outsets are = sym (length-map outsets shown_outset) ∙ (ap length are ∙ beginnings_size b os)
 
-pub outset_pushed : (b : Beginning) (os : List Occurrence) (o : Occurrence) (outsets : List Outset) (last next : Outset) → map shown_outset outsets ≡ beginnings_from b os
+pub outset_pushed : (b : SpanStartView) (os : List OccurrenceView) (o : OccurrenceView) (outsets : List SpanStart) (last next : SpanStart) → map shown_outset outsets ≡ beginnings_from b os
     → last ≡ get_or outsets (length outsets - 1) last → shown_outset next ≡ beginning_after (shown_outset last) o
     → map shown_outset (outsets ++ next ∷ []) ≡ beginnings_from b (os ++ o ∷ [])
 outset_pushed b os o outsets last next are is follows =
@@ -62,34 +62,34 @@ outset_pushed b os o outsets last next are is follows =
     let place : length outsets - 1 ≡ length os = omega (arith, size) in
     let here : last ≡ get_or outsets (length os) last = is ∙ ap (λ (i : ℕ). get_or outsets i last) place in
     let shown : get_or (beginnings_from b os) (length os) (shown_outset last) ≡ shown_outset last =
-    ap (λ (bs : List Beginning). get_or bs (length os) (shown_outset last)) (sym are)
+    ap (λ (bs : List SpanStartView). get_or bs (length os) (shown_outset last)) (sym are)
     ∙ (get_or-map shown_outset outsets (length os) last (shown_outset last) (omega (arith, size)) ∙ ap shown_outset (sym here)) in
     map-append shown_outset outsets (next ∷ [])
     ∙ (rw (are, follows) (sym (beginnings_last b os o (shown_outset last) ∙ rw shown refl)))
 
 -- those of each channel, with one event more
-pub own_last : (os : List Occurrence) (o : Occurrence) (c : ℕ) → (o.channel == c) ≡ true → filter (λ p. p.channel == c) (os ++ o ∷ []) ≡ filter (λ p. p.channel == c) os ++ o ∷ []
+pub own_last : (os : List OccurrenceView) (o : OccurrenceView) (c : ℕ) → (o.channel == c) ≡ true → filter (λ p. p.channel == c) (os ++ o ∷ []) ≡ filter (λ p. p.channel == c) os ++ o ∷ []
 own_last os o c own = filter-append (λ p. p.channel == c) os (o ∷ []) ∙ rw own refl
 
-pub other_last : (os : List Occurrence) (o : Occurrence) (c : ℕ) → (o.channel == c) ≡ false → filter (λ p. p.channel == c) (os ++ o ∷ []) ≡ filter (λ p. p.channel == c) os
+pub other_last : (os : List OccurrenceView) (o : OccurrenceView) (c : ℕ) → (o.channel == c) ≡ false → filter (λ p. p.channel == c) (os ++ o ∷ []) ≡ filter (λ p. p.channel == c) os
 other_last os o c other = filter-append (λ p. p.channel == c) os (o ∷ []) ∙ (rw other (append-nil (filter (λ p. p.channel == c) os)))
 
 -- ---- the spans between them
 
-first_of_beginnings : (b : Beginning) (os : List Occurrence) → first_in (beginnings_from b os) ≡ b.first
+first_of_beginnings : (b : SpanStartView) (os : List OccurrenceView) → first_in (beginnings_from b os) ≡ b.first
 first_of_beginnings b [] = refl
 first_of_beginnings b (o ∷ os) = refl
 
-pub spans_between_beginnings : (items : List (List Item)) (b : Beginning) (os : List Occurrence) → spans_along items (beginnings_from b os) ≡ spans_from items b os
+pub spans_between_beginnings : (items : List (List Item)) (b : SpanStartView) (os : List OccurrenceView) → spans_along items (beginnings_from b os) ≡ spans_from items b os
 spans_between_beginnings items b [] = refl
 spans_between_beginnings items b (o ∷ os) = rw (first_of_beginnings (beginning_after b o) os, spans_between_beginnings items (beginning_after b o) os) refl
 
-pub first_there : (outsets : List Outset) (place : ℕ) (d : Outset) → place < length outsets → first_in (drop place (map shown_outset outsets)) ≡ (get_or outsets place d).first
+pub first_there : (outsets : List SpanStart) (place : ℕ) (d : SpanStart) → place < length outsets → first_in (drop place (map shown_outset outsets)) ≡ (get_or outsets place d).first
 first_there [] place d within = absurd (omega arith)
 first_there (x ∷ xs) zero d within = refl
 first_there (x ∷ xs) (suc place) d within = first_there xs place d (omega arith)
 
-pub first_past : (outsets : List Outset) (place : ℕ) → length outsets ≤ place → first_in (drop place (map shown_outset outsets)) ≡ None
+pub first_past : (outsets : List SpanStart) (place : ℕ) → length outsets ≤ place → first_in (drop place (map shown_outset outsets)) ≡ None
 first_past [] zero far = refl
 first_past [] (suc place) far = refl
 first_past (x ∷ xs) zero far = absurd (omega arith)
@@ -110,11 +110,11 @@ items_hold P items (Some last) all none = by_go last.go
     by_go false = within items last.step all
 
 -- the span of a number
-pub spans_size : (items : List (List Item)) (bs : List Beginning) → length (spans_along items bs) ≡ length bs
+pub spans_size : (items : List (List Item)) (bs : List SpanStartView) → length (spans_along items bs) ≡ length bs
 spans_size items [] = refl
 spans_size items (b ∷ bs) = ap suc (spans_size items bs)
 
-pub span_there : (items : List (List Item)) (outsets : List Outset) (place : ℕ) (d : Span) → place < length outsets → get_or (spans_along items (map shown_outset outsets)) place d ≡ span_at items outsets place
+pub span_there : (items : List (List Item)) (outsets : List SpanStart) (place : ℕ) (d : Span) → place < length outsets → get_or (spans_along items (map shown_outset outsets)) place d ≡ span_at items outsets place
 span_there items [] place d within = absurd (omega arith)
 span_there items (x ∷ xs) zero d within = refl
 span_there items (x ∷ xs) (suc place) d within = span_there items xs place d (omega arith)
@@ -123,7 +123,7 @@ span_there items (x ∷ xs) (suc place) d within = span_there items xs place d (
 abbrev pub spans_left : List Span → ℕ → ℕ → List Span
 spans_left spans from upto = take (upto - from) (drop from spans)
 
-pub one_span : (items : List (List Item)) (outsets : List Outset) (place upto : ℕ) → place < upto → upto ≤ length outsets
+pub one_span : (items : List (List Item)) (outsets : List SpanStart) (place upto : ℕ) → place < upto → upto ≤ length outsets
     → spans_left (spans_along items (map shown_outset outsets)) place upto ≡ span_at items outsets place ∷ spans_left (spans_along items (map shown_outset outsets)) (place + 1) upto
 one_span items outsets place upto below within =
     let size : length (spans_along items (map shown_outset outsets)) ≡ length outsets = spans_size items (map shown_outset outsets) ∙ length-map outsets shown_outset in
@@ -137,7 +137,7 @@ pub no_span : (spans : List Span) (place upto : ℕ) → upto ≤ place → span
 no_span spans place upto past = let none : upto - place ≡ 0 = omega arith in rw none refl
 
 -- the stretches of a tenure, one after another: the last one ends with it
-pub one_stretch : (job : JobView) (zone : ZoneLine) (c : ℕ) (items : List (List Item)) (outsets : List Outset) (place upto : ℕ) (last : Option EventId) → place < upto → upto ≤ length outsets
+pub one_stretch : (job : JobView) (zone : ZoneLine) (c : ℕ) (items : List (List Item)) (outsets : List SpanStart) (place upto : ℕ) (last : Option EventId) → place < upto → upto ≤ length outsets
     → map (stretch_of_span job zone c) (spans_until last (spans_left (spans_along items (map shown_outset outsets)) place upto))
     ≡ (if place + 1 == upto then record (stretch_of_span job zone c (span_at items outsets place)) { last = last } else stretch_of_span job zone c (span_at items outsets place))
     ∷ map (stretch_of_span job zone c) (spans_until last (spans_left (spans_along items (map shown_outset outsets)) (place + 1) upto))
@@ -173,7 +173,7 @@ spans_in_tenure spans from size (Some upto) is = by_test (nat_lt upto size) refl
         take_more (drop from spans) (size - from) (omega (arith, left)) ∙ sym (take_more (drop from spans) (suc upto - from) (omega (arith, left)))
 
 -- the spans of a channel
-pub own_spans : (job : JobView) (items : List (List Item)) (occurrences : List Occurrence) (outsets : List (Vec Outset Global)) (own : List Outset) (c : ℕ) → AreOutsets job occurrences outsets → 1 ≤ c → c < CHANNEL_PLACES
+pub own_spans : (job : JobView) (items : List (List Item)) (occurrences : List OccurrenceView) (outsets : List (Vec SpanStart Global)) (own : List SpanStart) (c : ℕ) → AreOutsets job occurrences outsets → 1 ≤ c → c < CHANNEL_PLACES
     → map shown_outset own ≡ outsets_in outsets c → spans_along items (map shown_outset own) ≡ spans_of job items occurrences c
 unfolding spans_of
 own_spans job items occurrences outsets own c are from below is =

@@ -7,24 +7,24 @@ use mathlib.Core.Path.{fun_ext}
 use Rattle.axis_sets.specs.Positions.{stands}
 use Rattle.axis_sets.specs.Sets.{has}
 use Rattle.job_types.specs.declared.job.ZoneLine.{ZoneLine}
-use Rattle.protection_zones.specs.Exchanges.{HandOver, counts_in, shown_exchange, tenure_from, tenures_then}
+use Rattle.protection_zones.specs.Exchanges.{HandOverView, counts_in, shown_exchange, tenure_from, tenures_then}
 use Rattle.protection_zones.specs.Notes.{shown_note}
 use Rattle.protection_zones.specs.Terms.{changes, shown_term}
-use Rattle.protection_zones.specs.declared.exchanges.Exchange.{Exchange}
-use Rattle.protection_zones.specs.declared.notes.Note.{Note}
-use Rattle.protection_zones.specs.declared.tenures.Term.{Term}
+use Rattle.protection_zones.specs.declared.exchanges.HandOver.{HandOver}
+use Rattle.protection_zones.specs.declared.notes.Occurrence.{Occurrence}
+use Rattle.protection_zones.specs.declared.tenures.Tenure.{Tenure}
 use Rattle.sync_types.specs.declared.runs.EventId.{EventId}
 use Rattle.zone_stretches.proofs.HandLaws.{carry_none}
-use Rattle.zone_stretches.specs.Occurrences.{Occurrence}
+use Rattle.zone_stretches.specs.Occurrences.{OccurrenceView}
 use Rattle.zone_stretches.specs.Rows.{positions_in}
-use Rattle.zone_stretches.specs.Tenures.{Tenure, carry, changes_hands, tenure_until}
+use Rattle.zone_stretches.specs.Tenures.{TenureView, carry, changes_hands, tenure_until}
 
 or_false : (b : Bool) → (b || false) ≡ b
 or_false true = refl
 or_false false = refl
 
 -- axes of the zone change hands in the event of a note
-pub changes_alike : (zone : ZoneLine) (note : Note) (at : List (Option ℤ)) → changes_hands zone (shown_note note at) ≡ changes zone note
+pub changes_alike : (zone : ZoneLine) (note : Occurrence) (at : List (Option ℤ)) → changes_hands zone (shown_note note at) ≡ changes zone note
 unfolding shown_note
 changes_alike zone note at = by_go note.name.go
   where
@@ -32,7 +32,7 @@ changes_alike zone note at = by_go note.name.go
     by_go true = rw (carry_none zone) refl
     by_go false = rw (carry_none zone) (or_false (carry zone (has note.axes)))
 
-pub takes_alike : (zone : ZoneLine) (note : Note) (at : List (Option ℤ)) → changes zone note ≡ true → carry zone (shown_note note at).takes ≡ note.name.go
+pub takes_alike : (zone : ZoneLine) (note : Occurrence) (at : List (Option ℤ)) → changes zone note ≡ true → carry zone (shown_note note at).takes ≡ note.name.go
 unfolding shown_note
 takes_alike zone note at on = by_go note.name.go
   where
@@ -41,7 +41,7 @@ takes_alike zone note at on = by_go note.name.go
     by_go false = carry_none zone
 
 -- the tenure that begins with an event
-pub term_told : (zone : ZoneLine) (h : HandOver) (goes : Bool) (owner : Option ℕ) (line : ℕ) (at : List ℤ) (on : List Bool) (name : EventId) → carry zone h.event.takes ≡ goes
+pub term_told : (zone : ZoneLine) (h : HandOverView) (goes : Bool) (owner : Option ℕ) (line : ℕ) (at : List ℤ) (on : List Bool) (name : EventId) → carry zone h.event.takes ≡ goes
     → owner ≡ cond goes (Some h.event.channel) None → line ≡ unwrap_or h.event.line 0 → ((axis : ℕ) → positions_in at axis ≡ stands h.event.at axis) → on ≡ h.event.on → name ≡ h.event.name
     → shown_term (record { owner = owner; from = h.next; upto = None; line = line; at = at; on = on; first = Some name; last = None }) ≡ tenure_from zone h
 term_told zone h goes owner line at on name takes owner_is line_is stand on_is name_is =
@@ -49,19 +49,19 @@ term_told zone h goes owner line at on name takes owner_is line_is stand on_is n
     rw (owner_is, line_is, at_is, on_is, name_is, takes) refl
 
 -- the tenure that ends with one
-pub ended_told : (counts : ℕ → ℕ) (term : Term) (o : Occurrence) (upto : ℕ) (name : EventId) → upto ≡ option_map_or counts term.owner 0 → name ≡ o.name
+pub ended_told : (counts : ℕ → ℕ) (term : Tenure) (o : OccurrenceView) (upto : ℕ) (name : EventId) → upto ≡ option_map_or counts term.owner 0 → name ≡ o.name
     → shown_term (record term { upto = Some upto; last = Some name }) ≡ tenure_until counts (shown_term term) o
 ended_told counts term o upto name upto_is name_is = rw (upto_is, name_is) refl
 
 -- one exchange of the run
-pub next_exchange : (zone : ZoneLine) (later : Tenure → List Tenure) (t : Tenure) (es : List Exchange) (i : ℕ) (e : Exchange) → i < length es → e ≡ get_or es i e
+pub next_exchange : (zone : ZoneLine) (later : TenureView → List TenureView) (t : TenureView) (es : List HandOver) (i : ℕ) (e : HandOver) → i < length es → e ≡ get_or es i e
     → tenures_then zone later t (map shown_exchange (drop i es)) ≡ tenures_then zone later t (shown_exchange e ∷ map shown_exchange (drop (i + 1) es))
 next_exchange zone later t es i e within is = rw (add-one, drop-cons es i e within, sym is) refl
 
-pub hands_change : (zone : ZoneLine) (later : Tenure → List Tenure) (t : Tenure) (e : Exchange) (rest : List HandOver) → changes zone e.note ≡ true
+pub hands_change : (zone : ZoneLine) (later : TenureView → List TenureView) (t : TenureView) (e : HandOver) (rest : List HandOverView) → changes zone e.note ≡ true
     → tenures_then zone later t (shown_exchange e ∷ rest) ≡ tenure_until (counts_in e.counts) t (shown_note e.note e.at) ∷ tenures_then zone later (tenure_from zone (shown_exchange e)) rest
 hands_change zone later t e rest on = rw (changes_alike zone e.note e.at, on) refl
 
-pub hands_stay : (zone : ZoneLine) (later : Tenure → List Tenure) (t : Tenure) (e : Exchange) (rest : List HandOver) → changes zone e.note ≡ false
+pub hands_stay : (zone : ZoneLine) (later : TenureView → List TenureView) (t : TenureView) (e : HandOver) (rest : List HandOverView) → changes zone e.note ≡ false
     → tenures_then zone later t (shown_exchange e ∷ rest) ≡ tenures_then zone later t rest
 hands_stay zone later t e rest off = rw (changes_alike zone e.note e.at, off) refl

@@ -5,9 +5,9 @@ use Rattle.job_types.specs.Job.{JobView}
 use Rattle.protection_zones.specs.Beginnings.{AreOutsets}
 use Rattle.protection_zones.specs.Exchanges.{AreExchanges, count_in, counts_in, shown_exchange}
 use Rattle.protection_zones.specs.declared.logs.Log.{Log}
-use Rattle.zone_stretches.specs.Occurrences.{Occurrence}
+use Rattle.zone_stretches.specs.Occurrences.{OccurrenceView}
 
-pub record IsLog (job : JobView) (os : List Occurrence) (log : Log) : Type 0 where
+pub record IsLog (job : JobView) (os : List OccurrenceView) (log : Log) : Type 0 where
   pub size : length log.outsets.items ≡ CHANNEL_PLACES
   pub outsets : AreOutsets job os log.outsets.items
   pub exchanges : AreExchanges os (map shown_exchange log.exchanges.items)

@@ -5,8 +5,8 @@ use Rattle.step_deeds.specs.Holds.{departure_of, goes_in}
 use Rattle.step_deeds.specs.declared.deed.StepEvents.{StepEvents}
 use Rattle.step_deeds.specs.declared.deed.Wakeup.{Wakeup}
 use Rattle.order_clocks.specs.declared.step_reader.ReadStep.{ReadStep}
-use Rattle.zone_stretches.specs.Occurrences.{Occurrence}
-use Rattle.protection_zones.specs.declared.notes.Note.{Note}
+use Rattle.zone_stretches.specs.Occurrences.{OccurrenceView}
+use Rattle.protection_zones.specs.declared.notes.Occurrence.{Occurrence}
 use Rattle.sync_types.specs.Boards.{channel_numbers}
 use Rattle.sync_types.specs.GoingOn.{first_of}
 use Rattle.sync_types.specs.Views.{EntryView}
@@ -26,7 +26,7 @@ abbrev pub entry_in : List EntryView → ℕ → EntryView
 entry_in es i = slice_index_or es i no_entry
 
 -- the event of a note, where axes of its channel stand so
-unfoldable pub shown_note : Note → List (Option ℤ) → Occurrence
+unfoldable pub shown_note : Occurrence → List (Option ℤ) → OccurrenceView
 shown_note note at = record {
   name = note.name;
   channel = note.channel;
@@ -55,7 +55,7 @@ took_in (Some gone) x = has gone.took x
 took_in None x = false
 
 -- the events of a step as the code reads it
-abbrev pub read_act : ℕ → ReadStep → Step → Occurrence
+abbrev pub read_act : ℕ → ReadStep → Step → OccurrenceView
 read_act i read step = record {
   name = record { step = i; channel = read.deed.channel; go = false };
   channel = read.deed.channel;
@@ -67,7 +67,7 @@ read_act i read step = record {
   takes = λ axis. false;
 }
 
-abbrev pub read_going : ℕ → StepEvents → Go → Occurrence
+abbrev pub read_going : ℕ → StepEvents → Go → OccurrenceView
 read_going i deed go = record {
   name = record { step = i; channel = lowest_of deed go.channel; go = true };
   channel = go.channel;
@@ -79,5 +79,5 @@ read_going i deed go = record {
   takes = took_in (departure_of deed go.channel);
 }
 
-abbrev pub read_step : ℕ → ReadStep → EntryView → List Occurrence
+abbrev pub read_step : ℕ → ReadStep → EntryView → List OccurrenceView
 read_step i read entry = read_act i read entry.step ∷ map (read_going i read.deed) entry.goes

@@ -4,8 +4,8 @@ use Rattle.std.specs.Option.{option_to_list}
 use Rattle.job_types.specs.declared.job.ZoneLine.{ZoneLine}
 use Rattle.sync_types.specs.declared.Item.{Item}
 use Rattle.zone_stretches.specs.ZoneBoxes.{cover_during, seen, stand_after}
-use Rattle.zone_stretches.specs.declared.sights.Sight.{Sight}
-use Rattle.zone_stretches.specs.declared.sights.Sight.TheVariants.{Nothing, Turns, Moves}
+use Rattle.zone_stretches.specs.declared.sights.ZoneEffect.{ZoneEffect}
+use Rattle.zone_stretches.specs.declared.sights.ZoneEffect.TheVariants.{Nothing, Turns, Moves}
 use Rattle.zone_stretches.specs.declared.stretches.ZoneBox.{ZoneBox}
 
 -- a box that stands from a place on, and one of a motion
@@ -25,7 +25,7 @@ if_it_moves None = None
 if_it_moves (Some box) = if is_some box.motion then Some box else None
 
 -- what an item ends that has the next place
-abbrev pub ended_before : ℕ → Option ZoneBox → Sight → Option ZoneBox
+abbrev pub ended_before : ℕ → Option ZoneBox → ZoneEffect → Option ZoneBox
 ended_before to opened Nothing = None
 ended_before to opened (Turns true) = None
 ended_before to opened (Turns false) = box_until to opened
@@ -44,7 +44,7 @@ abbrev pub turned_on : ℤ → ZoneLine → ℕ → (ℕ → ℤ) → Item → O
 turned_on margin zone place at item None = Some (standing_box margin zone place item.line at)
 turned_on margin zone place at item (Some box) = Some box
 
-abbrev pub opened_after : ℤ → ZoneLine → ℕ → (ℕ → ℤ) → Item → Option ZoneBox → Sight → Option ZoneBox
+abbrev pub opened_after : ℤ → ZoneLine → ℕ → (ℕ → ℤ) → Item → Option ZoneBox → ZoneEffect → Option ZoneBox
 opened_after margin zone place at item opened Nothing = opened
 opened_after margin zone place at item opened (Turns true) = turned_on margin zone place at item opened
 opened_after margin zone place at item opened (Turns false) = None

@@ -2,13 +2,13 @@
 use Rattle.std.specs.Prelude.{Bool}
 use Rattle.axis_sets.specs.Sets.{has}
 use Rattle.job_types.specs.declared.job.ZoneLine.{ZoneLine}
-use Rattle.protection_zones.specs.declared.notes.Note.{Note}
-use Rattle.protection_zones.specs.declared.tenures.Term.{Term}
+use Rattle.protection_zones.specs.declared.notes.Occurrence.{Occurrence}
+use Rattle.protection_zones.specs.declared.tenures.Tenure.{Tenure}
 use Rattle.sync_types.specs.declared.verdicts.StretchKind.TheVariants.{Free}
 use Rattle.zone_stretches.specs.Rows.{positions_in}
-use Rattle.zone_stretches.specs.Tenures.{Tenure, carry}
+use Rattle.zone_stretches.specs.Tenures.{TenureView, carry}
 
-abbrev pub shown_term : Term → Tenure
+abbrev pub shown_term : Tenure → TenureView
 shown_term t = record {
   owner = t.owner;
   from = t.from;
@@ -18,5 +18,5 @@ shown_term t = record {
 }
 
 -- axes of the zone change hands
-abbrev pub changes : ZoneLine → Note → Bool
+abbrev pub changes : ZoneLine → Occurrence → Bool
 changes zone note = carry zone (has note.axes)

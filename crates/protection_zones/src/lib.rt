@@ -12,10 +12,10 @@ mod tenures;
 mod times;
 mod zone_time;
 
-pub(crate) use rows::Row;
+pub(crate) use rows::AxisPositions;
 pub use times::stretches_of;
 pub use zone_stretches::{
-    Sight, Stretch, Stretches, ZoneBox, boxes_are_few, boxes_by_pieces, boxes_have_covers,
+    Stretch, Stretches, ZoneBox, ZoneEffect, boxes_are_few, boxes_by_pieces, boxes_have_covers,
     boxes_share_out_places, ends_are_lowest_names, motion_at, orders_compare_the_same,
     stretches_ascend, zone_at,
 };

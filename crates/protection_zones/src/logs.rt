@@ -8,11 +8,11 @@ ghost use Rattle.protection_zones.specs.Exchanges.{counts_in};
 ghost use Rattle.protection_zones.specs.Logs.{IsLog};
 ghost use Rattle.protection_zones.specs.Notes.{read_going, read_step, shown_note};
 ghost use Rattle.sync_types.specs.Boards.{Board};
-ghost use Rattle.zone_stretches.specs.Occurrences.{Occurrence, occurrences_of};
+ghost use Rattle.zone_stretches.specs.Occurrences.{OccurrenceView, occurrences_of};
 
-use crate::exchanges::{Exchange, add_exchange};
-use crate::notes::{Note, act_note, going_note};
-use crate::spans::{Outset, add_outset, first_outsets};
+use crate::exchanges::{HandOver, add_exchange};
+use crate::notes::{Occurrence, act_note, going_note};
+use crate::spans::{SpanStart, add_outset, first_outsets};
 use axis_sets::{CHANNEL_PLACES, ChannelId, Positions};
 use job_types::Job;
 use order_clocks::{ReadStep, StepReader};
@@ -24,9 +24,9 @@ use sync_types::{ChannelEnd, Entry, Go};
 #[derive(Drop)]
 pub(crate) struct Log {
     /// For each channel, by its number, how its times begin.
-    pub(crate) outsets: Vec<Vec<Outset>>,
+    pub(crate) outsets: Vec<Vec<SpanStart>>,
     /// The events in which axes change hands, in order.
-    pub(crate) exchanges: Vec<Exchange>,
+    pub(crate) exchanges: Vec<HandOver>,
     /// For each channel, by its number, how many events of it have been.
     counts: [usize; CHANNEL_PLACES],
 }
@@ -52,9 +52,9 @@ fn set_count(counts: &mut [usize; CHANNEL_PLACES], channel: ChannelId, count: us
 }
 
 /// Adds an event in which axes of its channel stand so.
-fn add_event(log: &mut Log, note: &Note, at: &Positions) -> Result<(), AllocError>
-    requires { (job : JobView) × (os : List Occurrence) × IsLog job os log.old }
-    ensures { (job : JobView) (os : List Occurrence) → IsLog job os log.old
+fn add_event(log: &mut Log, note: &Occurrence, at: &Positions) -> Result<(), AllocError>
+    requires { (job : JobView) × (os : List OccurrenceView) × IsLog job os log.old }
+    ensures { (job : JobView) (os : List OccurrenceView) → IsLog job os log.old
         → OnOk result (IsLog job (os ++ shown_note note.now at.now ∷ []) log.new) }
 {
     let next = add_outset(&mut log.outsets, note, at)?;
@@ -65,8 +65,8 @@ fn add_event(log: &mut Log, note: &Note, at: &Positions) -> Result<(), AllocErro
 
 /// Adds those that go on in the step of this place.
 fn add_goings(log: &mut Log, place: u32, deed: &StepEvents, goes: &[Go]) -> Result<(), AllocError>
-    requires { (job : JobView) × (os : List Occurrence) × IsLog job os log.old }
-    ensures { (job : JobView) (os : List Occurrence) → IsLog job os log.old
+    requires { (job : JobView) × (os : List OccurrenceView) × IsLog job os log.old }
+    ensures { (job : JobView) (os : List OccurrenceView) → IsLog job os log.old
         → OnOk result (IsLog job (os ++ map (read_going place deed.now) goes.now) log.new) }
 {
     for go in goes {
@@ -77,8 +77,8 @@ fn add_goings(log: &mut Log, place: u32, deed: &StepEvents, goes: &[Go]) -> Resu
 
 /// Adds the events of the step of this place.
 fn add_step(log: &mut Log, place: u32, read: &ReadStep, entry: &Entry) -> Result<(), AllocError>
-    requires { (job : JobView) × (os : List Occurrence) × IsLog job os log.old }
-    ensures { (job : JobView) (os : List Occurrence) → IsLog job os log.old
+    requires { (job : JobView) × (os : List OccurrenceView) × IsLog job os log.old }
+    ensures { (job : JobView) (os : List OccurrenceView) → IsLog job os log.old
         → OnOk result (IsLog job (os ++ read_step place read.now entry.now) log.new) }
 {
     let step = entry.step();

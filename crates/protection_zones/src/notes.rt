@@ -12,7 +12,7 @@ use sync_types::{EventId, Go, Step, StretchKind};
 
 /// An event of a run, in few words, without where axes of its channel stand.
 #[derive(Clone, Copy)]
-pub(crate) struct Note {
+pub(crate) struct Occurrence {
     /// Its name.
     pub(crate) name: EventId,
     /// Its channel; where several go on as one event it is not always that of the name.
@@ -75,10 +75,10 @@ fn took_in(deed: &StepEvents, channel: ChannelId) -> AxisSet
 
 /// The note of an act, of the step of this place.
 #[tactic(auto, unfolding(crate::specs::Notes::shown_note))]
-pub(crate) fn act_note(place: u32, read: &ReadStep, step: &Step) -> Note
+pub(crate) fn act_note(place: u32, read: &ReadStep, step: &Step) -> Occurrence
     ensures { shown_note result step.now.at ≡ read_act place read.now step.now }
 {
-    Note {
+    Occurrence {
         name: EventId {
             step: place,
             channel: read.deed.channel,
@@ -93,10 +93,10 @@ pub(crate) fn act_note(place: u32, read: &ReadStep, step: &Step) -> Note
 }
 
 /// The note of one that goes on, in the step of this place.
-pub(crate) fn going_note(place: u32, deed: &StepEvents, go: &Go) -> Note
+pub(crate) fn going_note(place: u32, deed: &StepEvents, go: &Go) -> Occurrence
     ensures { shown_note result go.now.grant.at ≡ read_going place deed.now go.now }
 {
-    Note {
+    Occurrence {
         name: EventId {
             step: place,
             channel: lowest_of(deed, go.channel),

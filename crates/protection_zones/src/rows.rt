@@ -14,10 +14,10 @@ use micro_units::Um;
 use sync_types::Item;
 
 /// Where each axis stands, in micrometres.
-pub(crate) type Row = [Um; AXIS_LIMIT];
+pub(crate) type AxisPositions = [Um; AXIS_LIMIT];
 
 /// Where the job puts its axes.
-pub(crate) fn start_row(job: &Job) -> Row
+pub(crate) fn start_row(job: &Job) -> AxisPositions
     requires { length job.now.axes ≤ AXIS_LIMIT }
     ensures { (axis : ℕ) → positions_in result axis ≡ start_position job.now axis }
 {
@@ -38,7 +38,7 @@ fn position_at(at: &Positions, index: usize) -> Option<Um>
 }
 
 /// Puts those axes that have a position there.
-pub(crate) fn put(row: &mut Row, at: &Positions)
+pub(crate) fn put(row: &mut AxisPositions, at: &Positions)
     ensures { (axis : ℕ) → positions_in row.new axis ≡ unwrap_or (position_of at.now axis) (positions_in row.old axis) }
 {
     for index in 0..AXIS_LIMIT {
@@ -49,7 +49,7 @@ pub(crate) fn put(row: &mut Row, at: &Positions)
 }
 
 /// Where axes stand by their positions; one without a position stands at 0.
-pub(crate) fn row_of(at: &Positions) -> Row
+pub(crate) fn row_of(at: &Positions) -> AxisPositions
     ensures { (axis : ℕ) → positions_in result axis ≡ stands at.now axis }
 {
     let mut row = [Um { micrometres: 0 }; AXIS_LIMIT];
@@ -66,7 +66,7 @@ fn end_of(ends: &[(AxisId, Um, Um)], axis: AxisId) -> Option<(AxisId, Um, Um)>
 
 /// Where a motion leaves an axis.
 #[tactic(auto, unfolding(zone_stretches::specs::ZoneBoxes::stand_after))]
-fn after(item: &Item, row: &Row, index: usize) -> Um
+fn after(item: &Item, row: &AxisPositions, index: usize) -> Um
     requires { index < AXIS_LIMIT }
     ensures { result ≡ stand_after item.now (positions_in row.now) index }
 {
@@ -82,7 +82,7 @@ fn after(item: &Item, row: &Row, index: usize) -> Um
 }
 
 /// Puts the axes where a motion leaves them.
-pub(crate) fn settle(item: &Item, row: &mut Row)
+pub(crate) fn settle(item: &Item, row: &mut AxisPositions)
     requires { All (λ e. e.0 < AXIS_LIMIT) (axes_of (movement_of item.now)) }
     ensures { (axis : ℕ) → positions_in row.new axis ≡ stand_after item.now (positions_in row.old) axis }
 {

@@ -4,7 +4,7 @@ ghost use Rattle.zone_stretches.specs.ZoneBoxes.{moves_zone, seen};
 
 use job_types::ZoneLine;
 use sync_types::{Item, Part};
-use zone_stretches::Sight;
+use zone_stretches::ZoneEffect;
 
 /// Whether an axis of the zone is among the axes of the motion.
 #[tactic(auto, unfolding(zone_stretches::specs::ZoneBoxes::moves_zone))]
@@ -18,22 +18,22 @@ fn moves_zone(zone: &ZoneLine, item: &Item) -> bool
 }
 
 /// What an item is to a zone.
-pub(crate) fn seen(zone: &ZoneLine, item: &Item) -> Sight
+pub(crate) fn seen(zone: &ZoneLine, item: &Item) -> ZoneEffect
     ensures { result ≡ seen zone.now item.now }
 {
     match &item.part {
         Part::Switch(number, on) => {
             if *number == zone.zone {
-                Sight::Turns(*on)
+                ZoneEffect::Turns(*on)
             } else {
-                Sight::Nothing
+                ZoneEffect::Nothing
             }
         }
         Part::Move(_) => {
             if moves_zone(zone, item) {
-                Sight::Moves
+                ZoneEffect::Moves
             } else {
-                Sight::Nothing
+                ZoneEffect::Nothing
             }
         }
     }

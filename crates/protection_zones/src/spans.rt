@@ -7,11 +7,11 @@ ghost use Rattle.job_types.specs.Job.{JobView};
 ghost use Rattle.protection_zones.specs.Beginnings.{AreOutsets, beginnings_from, shown_outset};
 ghost use Rattle.protection_zones.specs.Exchanges.{count_in};
 ghost use Rattle.protection_zones.specs.Notes.{shown_note};
-ghost use Rattle.zone_stretches.specs.Occurrences.{Occurrence};
-ghost use Rattle.zone_stretches.specs.Spans.{Beginning, first_beginning, starts_at_first};
+ghost use Rattle.zone_stretches.specs.Occurrences.{OccurrenceView};
+ghost use Rattle.zone_stretches.specs.Spans.{SpanStartView, first_beginning, starts_at_first};
 
-use crate::Row;
-use crate::notes::Note;
+use crate::AxisPositions;
+use crate::notes::Occurrence;
 use crate::rows::{put, start_row};
 use axis_sets::{CHANNEL_PLACES, ChannelId, Positions, ZoneSet};
 use job_types::{Job, ZoneLine};
@@ -20,13 +20,13 @@ use sync_types::{EventId, StretchKind};
 
 /// How a time of a channel begins.
 #[derive(Clone, Copy)]
-pub(crate) struct Outset {
+pub(crate) struct SpanStart {
     /// What the channel does in it.
     pub(crate) kind: StretchKind,
     /// The line of the channel's last act before it; 0 where there is none.
     pub(crate) line: u32,
     /// Where axes stand.
-    pub(crate) at: Row,
+    pub(crate) at: AxisPositions,
     /// The zones that are on.
     pub(crate) on: ZoneSet,
     /// The event with which it begins; none where it begins with the job.
@@ -63,7 +63,7 @@ pub(crate) fn zones_on(zones: &[ZoneLine]) -> ZoneSet
 }
 
 /// How the only time of a channel begins that has had no event.
-fn only_outset(alloc: Global, job: &Job, channel: ChannelId) -> Result<Vec<Outset>, AllocError>
+fn only_outset(alloc: Global, job: &Job, channel: ChannelId) -> Result<Vec<SpanStart>, AllocError>
     requires { length job.now.axes ≤ AXIS_LIMIT }
     ensures { IfOk result (λ outsets. map shown_outset outsets.items ≡ first_beginning job.now channel ∷ []) }
 {
@@ -72,7 +72,7 @@ fn only_outset(alloc: Global, job: &Job, channel: ChannelId) -> Result<Vec<Outse
     } else {
         StretchKind::Idle
     };
-    let first = Outset {
+    let first = SpanStart {
         kind,
         line: 0,
         at: start_row(job),
@@ -85,7 +85,7 @@ fn only_outset(alloc: Global, job: &Job, channel: ChannelId) -> Result<Vec<Outse
 }
 
 /// For each channel, by its number, how its time begins with the job.
-pub(crate) fn first_outsets(alloc: Global, job: &Job) -> Result<Vec<Vec<Outset>>, AllocError>
+pub(crate) fn first_outsets(alloc: Global, job: &Job) -> Result<Vec<Vec<SpanStart>>, AllocError>
     requires { length job.now.axes ≤ AXIS_LIMIT }
     ensures size { IfOk result (λ outsets. length outsets.items ≡ CHANNEL_PLACES) }
     ensures outsets { IfOk result (λ outsets. AreOutsets job.now [] outsets.items) }
@@ -100,17 +100,22 @@ pub(crate) fn first_outsets(alloc: Global, job: &Job) -> Result<Vec<Vec<Outset>>
 }
 
 /// Adds how the time after an event begins to how the times of its channel begin, and says how many they were.
-fn push_outset(own: &mut Vec<Outset>, note: &Note, at: &Positions) -> Result<usize, AllocError>
+fn push_outset(
+    own: &mut Vec<SpanStart>,
+    note: &Occurrence,
+    at: &Positions,
+) -> Result<usize, AllocError>
     requires { 0 < length own.old.items }
     ensures count { IfOk result (λ count. count ≡ length own.old.items) }
-    ensures outsets { (b : Beginning) (os : List Occurrence) → map shown_outset own.old.items ≡ beginnings_from b os
+    ensures outsets { (b : SpanStartView) (os : List OccurrenceView)
+        → map shown_outset own.old.items ≡ beginnings_from b os
         → OnOk result (map shown_outset own.new.items ≡ beginnings_from b (os ++ shown_note note.now at.now ∷ [])) }
 {
     let count = own.len();
     let last = &own[count - 1];
     let mut row = last.at;
     put(&mut row, at);
-    let next = Outset {
+    let next = SpanStart {
         kind: note.kind,
         line: note.line.unwrap_or(last.line),
         at: row,
@@ -132,15 +137,15 @@ fn place_of(channel: ChannelId) -> usize
 
 /// Adds how the time after an event begins, and says the number of that time among those of its channel.
 pub(crate) fn add_outset(
-    outsets: &mut Vec<Vec<Outset>>,
-    note: &Note,
+    outsets: &mut Vec<Vec<SpanStart>>,
+    note: &Occurrence,
     at: &Positions,
 ) -> Result<usize, AllocError>
     requires size { length outsets.old.items ≡ CHANNEL_PLACES }
-    requires begun { (job : JobView) × (os : List Occurrence) × AreOutsets job os outsets.old.items }
-    ensures number { (job : JobView) (os : List Occurrence) → AreOutsets job os outsets.old.items
+    requires begun { (job : JobView) × (os : List OccurrenceView) × AreOutsets job os outsets.old.items }
+    ensures number { (job : JobView) (os : List OccurrenceView) → AreOutsets job os outsets.old.items
         → IfOk result (λ number. number ≡ suc (count_in os note.now.channel)) }
-    ensures outsets { (job : JobView) (os : List Occurrence) → AreOutsets job os outsets.old.items
+    ensures outsets { (job : JobView) (os : List OccurrenceView) → AreOutsets job os outsets.old.items
         → OnOk result (AreOutsets job (os ++ shown_note note.now at.now ∷ []) outsets.new.items) }
     ensures size { length outsets.new.items ≡ CHANNEL_PLACES }
 {

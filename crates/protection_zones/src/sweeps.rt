@@ -9,17 +9,17 @@ ghost use Rattle.path_geometry.specs.Motions.{IsSound};
 ghost use Rattle.swept_boxes.specs.Cover.{cover_of};
 ghost use Rattle.sync_types.specs.Items.{movement_of};
 
-use crate::Row;
+use crate::AxisPositions;
 use crate::rows::settle;
 use crate::sights::seen;
-use crate::spans::Outset;
+use crate::spans::SpanStart;
 use arrayvec::ArrayVec;
 use job_types::ZoneLine;
 use micro_units::Um;
 use std::alloc::{AllocError, Global};
 use swept_boxes::{Ranges, cover};
 use sync_types::Item;
-use zone_stretches::{Sight, ZoneBox, standing_zone_box, zone_box};
+use zone_stretches::{ZoneBox, ZoneEffect, standing_zone_box, zone_box};
 
 /// What an item covers: its motion, or where it switches a zone nothing.
 fn cover_of(item: &Item) -> Ranges
@@ -51,7 +51,7 @@ struct StepEvents<'a> {
     /// What it does.
     item: &'a Item,
     /// Where its axes stand before it.
-    at: &'a Row,
+    at: &'a AxisPositions,
 }
 
 /// The open box with its last place.
@@ -81,13 +81,13 @@ fn if_it_moves(opened: Option<ZoneBox>) -> Option<ZoneBox>
 }
 
 /// The box that an item ends which has the next place.
-fn ended_before(to: u32, opened: Option<ZoneBox>, sight: Sight) -> Option<ZoneBox>
+fn ended_before(to: u32, opened: Option<ZoneBox>, sight: ZoneEffect) -> Option<ZoneBox>
     ensures { result ≡ model.ended_before to opened sight }
 {
     match sight {
-        Sight::Nothing => None,
-        Sight::Turns(on) => { if on { None } else { box_until(to, opened) } }
-        Sight::Moves => box_until(to, if_it_moves(opened)),
+        ZoneEffect::Nothing => None,
+        ZoneEffect::Turns(on) => { if on { None } else { box_until(to, opened) } }
+        ZoneEffect::Moves => box_until(to, if_it_moves(opened)),
     }
 }
 
@@ -124,7 +124,7 @@ impl<'a> ZoneShape<'a> {
 
     /// The box of the zone that stands from a place on.
     #[tactic(auto, unfolding(crate::specs::Sweeps::standing_box))]
-    fn standing_box(&self, from: u32, line: u32, at: &Row) -> ZoneBox
+    fn standing_box(&self, from: u32, line: u32, at: &AxisPositions) -> ZoneBox
         ensures { result ≡ model.standing_box self.now.margin self.now.zone.now from line (positions_in at.now) }
     {
         ZoneBox {
@@ -171,34 +171,34 @@ impl<'a> ZoneShape<'a> {
         &self,
         deed: &StepEvents<'_>,
         opened: Option<ZoneBox>,
-        sight: Sight,
+        sight: ZoneEffect,
     ) -> Option<ZoneBox>
         requires { IsSound (movement_of deed.now.item.now) }
         ensures { result ≡ model.opened_after self.now.margin self.now.zone.now deed.now.place
             (positions_in deed.now.at.now) deed.now.item.now opened sight }
     {
         match sight {
-            Sight::Nothing => opened,
-            Sight::Turns(on) => {
+            ZoneEffect::Nothing => opened,
+            ZoneEffect::Turns(on) => {
                 if on {
                     self.turned_on(deed, opened)
                 } else {
                     None
                 }
             }
-            Sight::Moves => self.moved_on(deed, opened),
+            ZoneEffect::Moves => self.moved_on(deed, opened),
         }
     }
 
     /// Whether the zone is on as a span begins.
-    fn is_on(&self, begins: &Outset) -> bool
+    fn is_on(&self, begins: &SpanStart) -> bool
         ensures { result ≡ has begins.now.on self.now.zone.now.zone }
     {
         begins.on.contains(self.zone.zone)
     }
 
     /// What is open as a span begins.
-    fn opened_at_first(&self, begins: &Outset) -> Option<ZoneBox>
+    fn opened_at_first(&self, begins: &SpanStart) -> Option<ZoneBox>
         ensures { result ≡ model.opened_at_first self.now.margin self.now.zone.now
             (has begins.now.on self.now.zone.now.zone) begins.now.line (positions_in begins.now.at) }
     {
@@ -213,7 +213,7 @@ impl<'a> ZoneShape<'a> {
     pub(crate) fn boxes_at_rest(
         &self,
         alloc: Global,
-        begins: &Outset,
+        begins: &SpanStart,
     ) -> Result<Vec<ZoneBox>, AllocError>
         ensures { IfOk result (λ boxes. boxes.items
             ≡ map (shown_box self.now.margin self.now.zone.now) (boxes_of self.now.zone.now
@@ -230,7 +230,7 @@ impl<'a> ZoneShape<'a> {
     pub(crate) fn write_boxes(
         &self,
         boxes: &mut Vec<ZoneBox>,
-        begins: &Outset,
+        begins: &SpanStart,
         items: &[Item],
     ) -> Result<(), AllocError>
         requires few { length items.now < 2 ^ 32 }

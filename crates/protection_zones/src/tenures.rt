@@ -8,9 +8,9 @@ ghost use Rattle.protection_zones.specs.Notes.{shown_note};
 ghost use Rattle.protection_zones.specs.Terms.{changes, shown_term};
 ghost use Rattle.zone_stretches.specs.Tenures.{first_tenure, is_carried_by, tenure_until};
 
-use crate::Row;
-use crate::exchanges::Exchange;
-use crate::notes::Note;
+use crate::AxisPositions;
+use crate::exchanges::HandOver;
+use crate::notes::Occurrence;
 use crate::rows::{row_of, start_row};
 use crate::spans::{zones_in, zones_on};
 use axis_sets::{AxisId, AxisSet, CHANNEL_PLACES, ChannelId, ZoneSet};
@@ -20,7 +20,7 @@ use sync_types::EventId;
 
 /// A tenure of a zone.
 #[derive(Clone, Copy)]
-pub(crate) struct Term {
+pub(crate) struct Tenure {
     /// The channel that holds the zone, or none.
     pub(crate) owner: Option<ChannelId>,
     /// The number of its first span in the tenure.
@@ -30,7 +30,7 @@ pub(crate) struct Term {
     /// The line of the act with which it begins; 0 where there is none.
     pub(crate) line: u32,
     /// Where the axes of the zone stand as it begins.
-    pub(crate) at: Row,
+    pub(crate) at: AxisPositions,
     /// The zones that are on as it begins.
     pub(crate) on: ZoneSet,
     /// The event with which it begins; none where it begins with the job.
@@ -50,7 +50,7 @@ fn is_carried_by(axes: &AxisSet, carrier: Option<(AxisId, bool)>) -> bool
 }
 
 /// Whether axes of the zone change hands in an event.
-fn changes(zone: &ZoneLine, note: &Note) -> bool
+fn changes(zone: &ZoneLine, note: &Occurrence) -> bool
     ensures { result ≡ changes zone.now note.now }
 {
     zone.sides
@@ -59,11 +59,11 @@ fn changes(zone: &ZoneLine, note: &Note) -> bool
 }
 
 /// How a zone stands as the job begins.
-fn first_term(job: &Job, zone: &ZoneLine) -> Term
+fn first_term(job: &Job, zone: &ZoneLine) -> Tenure
     requires { length job.now.axes ≤ AXIS_LIMIT }
     ensures { shown_term result ≡ first_tenure job.now zone.now }
 {
-    Term {
+    Tenure {
         owner: zone.holder,
         from: 0,
         upto: None,
@@ -76,7 +76,7 @@ fn first_term(job: &Job, zone: &ZoneLine) -> Term
 }
 
 /// The channel that holds a zone whose axes change hands in an event.
-fn owner_after(note: &Note) -> Option<ChannelId>
+fn owner_after(note: &Occurrence) -> Option<ChannelId>
     ensures { result ≡ (if note.now.name.go then Some note.now.channel else None) }
 {
     if note.name.go {
@@ -97,12 +97,12 @@ fn count_of_owner(counts: &[usize; CHANNEL_PLACES], owner: Option<ChannelId>) ->
 }
 
 /// The tenure that begins with an event in which axes of the zone change hands.
-fn term_after(zone: &ZoneLine, exchange: &Exchange) -> Term
+fn term_after(zone: &ZoneLine, exchange: &HandOver) -> Tenure
     requires { changes zone.now exchange.now.note ≡ true }
     ensures { shown_term result ≡ tenure_from zone.now (shown_exchange exchange.now) }
 {
     let note = &exchange.note;
-    Term {
+    Tenure {
         owner: owner_after(note),
         from: exchange.next,
         upto: None,
@@ -115,11 +115,11 @@ fn term_after(zone: &ZoneLine, exchange: &Exchange) -> Term
 }
 
 /// The tenure up to an event.
-fn term_until(term: &Term, exchange: &Exchange) -> Term
+fn term_until(term: &Tenure, exchange: &HandOver) -> Tenure
     ensures { shown_term result ≡ tenure_until (counts_in exchange.now.counts) (shown_term term.now)
         (shown_note exchange.now.note exchange.now.at) }
 {
-    Term {
+    Tenure {
         upto: Some(count_of_owner(&exchange.counts, term.owner)),
         last: Some(exchange.note.name),
         ..*term
@@ -130,9 +130,9 @@ fn term_until(term: &Term, exchange: &Exchange) -> Term
 pub(crate) fn terms_of(
     alloc: Global,
     job: &Job,
-    exchanges: &[Exchange],
+    exchanges: &[HandOver],
     zone: &ZoneLine,
-) -> Result<Vec<Term>, AllocError>
+) -> Result<Vec<Tenure>, AllocError>
     requires { length job.now.axes ≤ AXIS_LIMIT }
     ensures { IfOk result (λ terms. map shown_term terms.items
         ≡ tenures_then zone.now (λ t. t ∷ []) (first_tenure job.now zone.now) (map shown_exchange exchanges.now)) }

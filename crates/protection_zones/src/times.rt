@@ -8,7 +8,7 @@ ghost use Rattle.protection_zones.specs.Logs.{IsLog};
 ghost use Rattle.sync_types.specs.Boards.{first_board};
 ghost use Rattle.sync_types.specs.Runs.{ComesFrom};
 ghost use Rattle.sync_types.specs.Views.{StartView};
-ghost use Rattle.zone_stretches.specs.Occurrences.{Occurrence};
+ghost use Rattle.zone_stretches.specs.Occurrences.{OccurrenceView};
 ghost use Rattle.zone_stretches.specs.Stretches.{all_stretches, stretches_of_zone};
 ghost use Rattle.zone_stretches.specs.ZoneBoxes.{IsFit};
 
@@ -29,7 +29,7 @@ fn stretches_of_zone(alloc: Global, scene: &Scene, log: &Log) -> Result<Vec<Stre
     requires axes { length scene.now.job.now.axes ≤ AXIS_LIMIT }
     requires few { All (λ done. length done < 2 ^ 32) (all_items scene.now.items.now) }
     requires fit { All (All IsFit) (all_items scene.now.items.now) }
-    ensures { (os : List Occurrence) → IsLog scene.now.job.now os log.now
+    ensures { (os : List OccurrenceView) → IsLog scene.now.job.now os log.now
         → IfOk result (λ stretches. stretches.items
         ≡ stretches_of_zone scene.now.job.now (all_items scene.now.items.now) os scene.now.zone.now) }
 {
@@ -48,7 +48,7 @@ fn stretches_in_order(
     requires axes { length job.now.axes ≤ AXIS_LIMIT }
     requires few { All (λ done. length done < 2 ^ 32) (all_items items.now) }
     requires fit { All (All IsFit) (all_items items.now) }
-    ensures { (os : List Occurrence) → IsLog job.now os log.now
+    ensures { (os : List OccurrenceView) → IsLog job.now os log.now
         → IfOk result (λ zones. map (λ s. s.items) zones.items
         ≡ map (stretches_of_zone job.now (all_items items.now) os) (zones_in_order job.now)) }
 {

@@ -6,15 +6,15 @@ ghost use Rattle.axis_sets.specs.Sets.{has};
 ghost use Rattle.axis_sets.specs.declared.limits.TheConstants.{CHANNEL_PLACES};
 ghost use Rattle.protection_zones.specs.Beginnings.{AreOutsets, all_items, end_of, entry_until, first_in, items_until, outsets_in, shown_outset, span_at, spans_along};
 ghost use Rattle.protection_zones.specs.Terms.{shown_term};
-ghost use Rattle.zone_stretches.specs.Occurrences.{Occurrence};
+ghost use Rattle.zone_stretches.specs.Occurrences.{OccurrenceView};
 ghost use Rattle.zone_stretches.specs.Rows.{positions_in};
 ghost use Rattle.zone_stretches.specs.Spans.{Span, spans_of};
 ghost use Rattle.zone_stretches.specs.Stretches.{free_stretch, spans_in, stretch_of_span, stretches_in_tenure};
 ghost use Rattle.zone_stretches.specs.ZoneBoxes.{IsFit, boxes_of, shown_box};
 
-use crate::spans::Outset;
+use crate::spans::SpanStart;
 use crate::sweeps::ZoneShape;
-use crate::tenures::Term;
+use crate::tenures::Tenure;
 use axis_sets::ChannelId;
 use job_types::{Job, ZoneLine};
 use std::alloc::{AllocError, Global};
@@ -36,7 +36,7 @@ pub(crate) struct Scene<'a> {
 #[derive(Clone, Copy)]
 struct Holder<'a> {
     channel: ChannelId,
-    outsets: &'a [Outset],
+    outsets: &'a [SpanStart],
 }
 
 /// The items of a place; none past the end.
@@ -76,7 +76,7 @@ fn first_entry(first: Option<EventId>) -> u32
 }
 
 /// The entry to which a span belongs that ends with this event, or lasts.
-fn entry_until(begins: &Outset, last: Option<EventId>) -> u32
+fn entry_until(begins: &SpanStart, last: Option<EventId>) -> u32
     ensures { result ≡ entry_until (shown_outset begins.now) last }
 {
     match last {
@@ -92,7 +92,7 @@ fn entry_until(begins: &Outset, last: Option<EventId>) -> u32
 }
 
 /// The event with which a time begins; none past the end.
-fn first_at(outsets: &[Outset], place: usize) -> Option<EventId>
+fn first_at(outsets: &[SpanStart], place: usize) -> Option<EventId>
     ensures { result ≡ first_in (drop place (map shown_outset outsets.now)) }
 {
     if place < outsets.len() {
@@ -114,7 +114,7 @@ fn end_of(size: usize, upto: Option<usize>) -> usize
 }
 
 /// The stretch of a tenure: the last one ends with the tenure.
-fn stretch_in(term: &Term, stretch: Stretch, is_last: bool) -> Stretch
+fn stretch_in(term: &Tenure, stretch: Stretch, is_last: bool) -> Stretch
     ensures { result ≡ (if is_last then record stretch { last = term.now.last } else stretch) }
 {
     let last = if is_last { term.last } else { stretch.last };
@@ -122,7 +122,7 @@ fn stretch_in(term: &Term, stretch: Stretch, is_last: bool) -> Stretch
 }
 
 /// How the times of a channel begin.
-fn own_outsets(outsets: &[Vec<Outset>], channel: ChannelId) -> &[Outset]
+fn own_outsets(outsets: &[Vec<SpanStart>], channel: ChannelId) -> &[SpanStart]
     ensures own { map shown_outset result.now ≡ outsets_in outsets.now channel }
     ensures from { 1 ≤ channel }
     ensures below { channel < CHANNEL_PLACES }
@@ -139,7 +139,7 @@ impl<'a> Scene<'a> {
         &self,
         alloc: Global,
         scratch: &mut Vec<ZoneBox>,
-        begins: &Outset,
+        begins: &SpanStart,
         items: &[Item],
     ) -> Result<Vec<ZoneBox>, AllocError>
         requires few { length items.now < 2 ^ 32 }
@@ -197,7 +197,7 @@ impl<'a> Scene<'a> {
         scratch: &mut Vec<ZoneBox>,
         stretches: &mut Vec<Stretch>,
         holder: &Holder<'_>,
-        term: &Term,
+        term: &Tenure,
     ) -> Result<(), AllocError>
         requires few { All (λ done. length done < 2 ^ 32) (all_items self.now.items.now) }
         requires fit { All (All IsFit) (all_items self.now.items.now) }
@@ -219,12 +219,12 @@ impl<'a> Scene<'a> {
         &self,
         alloc: Global,
         scratch: &mut Vec<ZoneBox>,
-        term: &Term,
+        term: &Tenure,
     ) -> Result<Stretch, AllocError>
         ensures { IfOk result (λ s. s ≡ free_stretch self.now.job.now self.now.zone.now (shown_term term.now)) }
     {
         let zone = self.zone;
-        let begins = Outset {
+        let begins = SpanStart {
             kind: StretchKind::Free,
             line: term.line,
             at: term.at,
@@ -251,12 +251,12 @@ impl<'a> Scene<'a> {
         alloc: Global,
         scratch: &mut Vec<ZoneBox>,
         stretches: &mut Vec<Stretch>,
-        outsets: &[Vec<Outset>],
-        term: &Term,
+        outsets: &[Vec<SpanStart>],
+        term: &Tenure,
     ) -> Result<(), AllocError>
         requires few { All (λ done. length done < 2 ^ 32) (all_items self.now.items.now) }
         requires fit { All (All IsFit) (all_items self.now.items.now) }
-        ensures { (occurrences : List Occurrence) → AreOutsets self.now.job.now occurrences outsets.now
+        ensures { (occurrences : List OccurrenceView) → AreOutsets self.now.job.now occurrences outsets.now
             → OnOk result (stretches.new.items ≡ stretches.old.items
             ++ stretches_in_tenure self.now.job.now self.now.zone.now
             (spans_of self.now.job.now (all_items self.now.items.now) occurrences) (shown_term term.now)) }
@@ -281,12 +281,12 @@ impl<'a> Scene<'a> {
     pub(crate) fn stretches(
         &self,
         alloc: Global,
-        outsets: &[Vec<Outset>],
-        terms: &[Term],
+        outsets: &[Vec<SpanStart>],
+        terms: &[Tenure],
     ) -> Result<Vec<Stretch>, AllocError>
         requires few { All (λ done. length done < 2 ^ 32) (all_items self.now.items.now) }
         requires fit { All (All IsFit) (all_items self.now.items.now) }
-        ensures { (occurrences : List Occurrence) → AreOutsets self.now.job.now occurrences outsets.now
+        ensures { (occurrences : List OccurrenceView) → AreOutsets self.now.job.now occurrences outsets.now
             → IfOk result (λ stretches. stretches.items
             ≡ flat_map (stretches_in_tenure self.now.job.now self.now.zone.now
             (spans_of self.now.job.now (all_items self.now.items.now) occurrences)) (map shown_term terms.now)) }

@@ -4,7 +4,7 @@ use Rattle.std.proofs.lemmas.Bool.{eqb-true}
 use Rattle.board_laws.specs.Zones.{Zones}
 use Rattle.zone_stretches.proofs.EventLaws.{IsTold, all_told, own_name}
 use Rattle.zone_stretches.proofs.NameLaws.{occurrences_named}
-use Rattle.zone_stretches.specs.Occurrences.{Occurrence, occurrences_of}
+use Rattle.zone_stretches.specs.Occurrences.{OccurrenceView, occurrences_of}
 use Rattle.schedule_laws.specs.Tracked.{clocks_at}
 use Rattle.speed_laws.proofs.AlikeNames.{AreAlikeNames}
 use Rattle.speed_laws.proofs.AlikeKinds.{KindsFollow, kind_next, kinds_follow}
@@ -17,7 +17,7 @@ use Rattle.sync_types.specs.declared.Item.{Item}
 use Rattle.sync_types.specs.declared.verdicts.StretchKind.TheVariants.{Run, Hold}
 
 -- an event of a channel passes the test of its channel
-kept_passes : (test : Occurrence → Bool) (os : List Occurrence) (k : ℕ) (o : Occurrence) → slice_get (filter test os) k ≡ Some o → test o ≡ true
+kept_passes : (test : OccurrenceView → Bool) (os : List OccurrenceView) (k : ℕ) (o : OccurrenceView) → slice_get (filter test os) k ≡ Some o → test o ≡ true
 kept_passes test [] k o is = absurd cc
 kept_passes test (p ∷ os) k o is = by_test (test p) refl k is (λ j there. kept_passes test os j o there)
   where
@@ -28,7 +28,7 @@ kept_passes test (p ∷ os) k o is = by_test (test p) refl k is (λ j there. kep
 
 module _ (b : Board) (ms ns : List Move) (rows others : List (List Item)) where
   -- what the events tell is the same, and they have names of one event
-  pub record IsAlike (o p : Occurrence) : Type 0 where
+  pub record IsAlike (o p : OccurrenceView) : Type 0 where
     pub kind : o.kind ≡ p.kind
     pub line : o.line ≡ p.line
     pub at : o.at ≡ p.at
@@ -37,12 +37,12 @@ module _ (b : Board) (ms ns : List Move) (rows others : List (List Item)) where
     pub items : (if o.name.go then [] else slice_index_or rows o.name.step []) ≡ (if p.name.go then [] else slice_index_or others p.name.step [])
     pub names : AreAlikeNames b ms ns o.name p.name
 
-  abbrev pub AreAlikeEvents : List Occurrence → List Occurrence → Type 0
+  abbrev pub AreAlikeEvents : List OccurrenceView → List OccurrenceView → Type 0
   AreAlikeEvents [] [] = Unit {0}
   AreAlikeEvents (o ∷ os) (p ∷ ps) = IsAlike o p × AreAlikeEvents os ps
   AreAlikeEvents os ps = ⊥
 
-  pub alike_at : (os ps : List Occurrence) (k : ℕ) (o p : Occurrence) → AreAlikeEvents os ps → slice_get os k ≡ Some o → slice_get ps k ≡ Some p → IsAlike o p
+  pub alike_at : (os ps : List OccurrenceView) (k : ℕ) (o p : OccurrenceView) → AreAlikeEvents os ps → slice_get os k ≡ Some o → slice_get ps k ≡ Some p → IsAlike o p
   alike_at [] ps k o p are is also = absurd cc
   alike_at (q ∷ os) [] k o p are is also = absurd cc
   alike_at (q ∷ os) (r ∷ ps) zero o p are is also =
@@ -52,7 +52,7 @@ module _ (b : Board) (ms ns : List Move) (rows others : List (List Item)) where
   alike_at (q ∷ os) (r ∷ ps) (suc k) o p are is also = alike_at os ps k o p are.1 is also
 
   -- lists that tell the same
-  next_alike : (os ps : List Occurrence) (last : State) → map (telling_of rows) os ≡ map (telling_of others) ps → kind_next os last ≡ kind_next ps last
+  next_alike : (os ps : List OccurrenceView) (last : State) → map (telling_of rows) os ≡ map (telling_of others) ps → kind_next os last ≡ kind_next ps last
   next_alike [] [] last same = refl
   next_alike [] (p ∷ ps) last same = absurd cc
   next_alike (o ∷ os) [] last same = absurd cc
@@ -60,8 +60,8 @@ module _ (b : Board) (ms ns : List Move) (rows others : List (List Item)) where
       let here : telling_of rows o ≡ telling_of others p = cc in
       ap (λ (t : Telling). if t.goes then Hold else Run) here
 
-  told_alike : (os ps : List Occurrence) (last : State) → map (telling_of rows) os ≡ map (telling_of others) ps → KindsFollow os last → KindsFollow ps last
-      → ((k : ℕ) (o p : Occurrence) → slice_get os k ≡ Some o → slice_get ps k ≡ Some p → AreAlikeNames b ms ns o.name p.name) → AreAlikeEvents os ps
+  told_alike : (os ps : List OccurrenceView) (last : State) → map (telling_of rows) os ≡ map (telling_of others) ps → KindsFollow os last → KindsFollow ps last
+      → ((k : ℕ) (o p : OccurrenceView) → slice_get os k ≡ Some o → slice_get ps k ≡ Some p → AreAlikeNames b ms ns o.name p.name) → AreAlikeEvents os ps
   told_alike [] [] last same left right names = tt
   told_alike [] (p ∷ ps) last same left right names = absurd cc
   told_alike (o ∷ os) [] last same left right names = absurd cc
@@ -83,12 +83,12 @@ module _ (b : Board) (ms ns : List Move) (rows others : List (List Item)) where
   -- ---- the events of a channel
 
   module _ (zs : Zones b) (one : AreOfRunning b ms) (two : AreOfRunning b ns) (c : ℕ) where
-    abbrev in_run : List Move → List Occurrence
+    abbrev in_run : List Move → List OccurrenceView
     in_run moves = filter (λ o. o.channel == c) (occurrences_of b moves)
 
     -- of the same place
     names_alike : ((j x : ℕ) → clocks_at b ms (length ms) c j x ≡ clocks_at b ns (length ns) c j x)
-        → (k : ℕ) (o p : Occurrence) → slice_get (filter (λ q. q.channel == c) (occurrences_of b ms)) k ≡ Some o → slice_get (filter (λ q. q.channel == c) (occurrences_of b ns)) k ≡ Some p
+        → (k : ℕ) (o p : OccurrenceView) → slice_get (filter (λ q. q.channel == c) (occurrences_of b ms)) k ≡ Some o → slice_get (filter (λ q. q.channel == c) (occurrences_of b ns)) k ≡ Some p
         → AreAlikeNames b ms ns o.name p.name
     names_alike clocks k o p is also =
         let left = place_told b ms c k o one zs is in

@@ -17,7 +17,7 @@ use Rattle.sync_types.specs.Turns.{AreOfRunning, Move, after_moves, after_step, 
 use Rattle.sync_types.specs.declared.Step.{Step}
 use Rattle.sync_types.specs.declared.verdicts.StretchKind.{StretchKind}
 use Rattle.sync_types.specs.declared.verdicts.StretchKind.TheVariants.{Run, Hold}
-use Rattle.zone_stretches.specs.Occurrences.{Occurrence, act_of, going_on_of, kind_after_act, occurrences_in, occurrences_from}
+use Rattle.zone_stretches.specs.Occurrences.{OccurrenceView, act_of, going_on_of, kind_after_act, occurrences_in, occurrences_from}
 
 -- ---- kinds
 
@@ -26,15 +26,15 @@ abbrev pub kind_of : State → StretchKind
 kind_of s = kind_after_act (hold_in s) s
 
 -- before these events of the channel, at the end of which it does this
-abbrev pub kind_next : List Occurrence → State → StretchKind
+abbrev pub kind_next : List OccurrenceView → State → StretchKind
 kind_next [] last = kind_of last
 kind_next (o ∷ os) last = if o.name.go then Hold else Run
 
-abbrev pub KindsFollow : List Occurrence → State → Type 0
+abbrev pub KindsFollow : List OccurrenceView → State → Type 0
 KindsFollow [] last = Unit {0}
 KindsFollow (o ∷ os) last = (o.kind ≡ kind_next os last) × KindsFollow os last
 
-pub record Follow (s : State) (os : List Occurrence) (last : State) : Type 0 where
+pub record Follow (s : State) (os : List OccurrenceView) (last : State) : Type 0 where
   pub now : is_idle s ≡ false → kind_of s ≡ kind_next os last
   pub later : KindsFollow os last
 
@@ -61,11 +61,11 @@ module _ (b : Board) (p : ℕ) (step : Step) (zs : Zones b) (running : is_runnin
   abbrev state_after : ℕ → State
   state_after c = (after_step b p step).state c
 
-  abbrev events : ℕ → List Occurrence
+  abbrev events : ℕ → List OccurrenceView
   events c = cond (p == c) (act_of i step (happening_of b p step) ∷ []) [] ++ map (going_on_of i goings) (as_goings (going_of goings c))
 
   -- the acting channel
-  actor : (os : List Occurrence) → Follow (state_after p) os last → Follow (b.state p) (events p ++ os) last
+  actor : (os : List OccurrenceView) → Follow (state_after p) os last → Follow (b.state p) (events p ++ os) last
   actor os rest = by_going (going_of goings p) refl
     where
       by_going : (o : Option Going) → going_of goings p ≡ o → Follow (b.state p) (events p ++ os) last
@@ -96,7 +96,7 @@ module _ (b : Board) (p : ℕ) (step : Step) (zs : Zones b) (running : is_runnin
           })
 
   -- another channel
-  other : (c : ℕ) (os : List Occurrence) → (c == p) ≡ false → (p == c) ≡ false → Follow (state_after c) os last → Follow (b.state c) (events c ++ os) last
+  other : (c : ℕ) (os : List OccurrenceView) → (c == p) ≡ false → (p == c) ≡ false → Follow (state_after c) os last → Follow (b.state c) (events c ++ os) last
   other c os off off' rest = by_going (going_of goings c) refl
     where
       by_going : (o : Option Going) → going_of goings c ≡ o → Follow (b.state c) (events c ++ os) last
@@ -117,7 +117,7 @@ module _ (b : Board) (p : ℕ) (step : Step) (zs : Zones b) (running : is_runnin
             later = rest.later;
           })
 
-  follow_step : (c : ℕ) (os : List Occurrence) → Follow (state_after c) os last → Follow (b.state c) (events c ++ os) last
+  follow_step : (c : ℕ) (os : List OccurrenceView) → Follow (state_after c) os last → Follow (b.state c) (events c ++ os) last
   follow_step c os rest = elim (cases_Bool (p == c)) [
     | inl same ↦ by_same (eqb-true p c same) rest
     | inr off ↦ other c os (ne_eqb c p (λ e. no_truth (p == c) (eq-eqb p c (sym e)) off)) off rest
@@ -136,5 +136,5 @@ kinds_follow (m ∷ ms) b i c zs run =
     let rest = kinds_follow ms next (suc i) c (zones_step b m.channel m.step zs) run.1 in
     let here = occurrences_in i m.step (happening_of b m.channel m.step) in
     let there = occurrences_from next (suc i) ms in
-    let parts = filter-append (λ o. o.channel == c) here there ∙ ap (λ (os : List Occurrence). os ++ filter (λ o. o.channel == c) there) (step_events b m.channel m.step i c run.0 zs) in
-    subst (λ (os : List Occurrence). Follow (b.state c) os last) (sym parts) (follow_step b m.channel m.step zs run.0 i last c (filter (λ o. o.channel == c) there) rest)
+    let parts = filter-append (λ o. o.channel == c) here there ∙ ap (λ (os : List OccurrenceView). os ++ filter (λ o. o.channel == c) there) (step_events b m.channel m.step i c run.0 zs) in
+    subst (λ (os : List OccurrenceView). Follow (b.state c) os last) (sym parts) (follow_step b m.channel m.step zs run.0 i last c (filter (λ o. o.channel == c) there) rest)

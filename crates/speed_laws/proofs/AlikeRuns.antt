@@ -28,12 +28,12 @@ use Rattle.sync_types.specs.Runs.{first_stage}
 use Rattle.sync_types.specs.Turns.{AreOfRunning, Move}
 use Rattle.sync_types.specs.Views.{RunView}
 use Rattle.sync_types.specs.declared.Item.{Item}
-use Rattle.zone_stretches.specs.Occurrences.{Occurrence, occurrences_of}
+use Rattle.zone_stretches.specs.Occurrences.{OccurrenceView, occurrences_of}
 use Rattle.zone_stretches.specs.Overlaps.{Order}
 use Rattle.zone_stretches.specs.SoundStretches.{IsZoneOf}
 use Rattle.zone_stretches.specs.Spans.{Span, entry_of_beginning, spans_of}
 use Rattle.zone_stretches.specs.Stretches.{StretchView, all_stretches, spans_between, spans_in, stretch_of_span, stretches_held_by, stretches_in_tenure, stretches_of_zone}
-use Rattle.zone_stretches.specs.Tenures.{Tenure, tenures_of}
+use Rattle.zone_stretches.specs.Tenures.{TenureView, tenures_of}
 
 -- ---- lists
 
@@ -86,7 +86,7 @@ module _ (b : Board) (ms ns : List Move) (run other : RunView) where
     mapped_alike c (x ∷ xs) [] are = absurd are
     mapped_alike c (x ∷ xs) (y ∷ ys) are = (stretch_alike b ms ns run other job zone (Some c) x y are.0, mapped_alike c xs ys are.1)
 
-    held_alike : (t u : Tenure) (owner : Option ℕ) → AreAlikeTenures b ms ns run other t u → AllAlikeTold b ms ns run other (stretches_held_by job zone spans t owner) (stretches_held_by job zone others u owner)
+    held_alike : (t u : TenureView) (owner : Option ℕ) → AreAlikeTenures b ms ns run other t u → AllAlikeTold b ms ns run other (stretches_held_by job zone spans t owner) (stretches_held_by job zone others u owner)
     held_alike t u None are = (
       stretch_alike b ms ns run other job zone None (record { begins = t.begins; last = t.last; entry = entry_of_beginning t.begins; items = [] })
           (record { begins = u.begins; last = u.last; entry = entry_of_beginning u.begins; items = [] })
@@ -100,7 +100,7 @@ module _ (b : Board) (ms ns : List Move) (run other : RunView) where
         (subst (λ (from : ℕ). AllAlikeSpans b ms ns run other (spans_between (spans c) t.from t.upto) (spans_between (others c) from t.upto)) are.from
         (between_alike b ms ns run other (spans c) (others c) t.from t.upto (each c)))))
 
-    tenures_told : (ts us : List Tenure) → AllAlikeTenures b ms ns run other ts us
+    tenures_told : (ts us : List TenureView) → AllAlikeTenures b ms ns run other ts us
         → AllAlikeTold b ms ns run other (flat_map (stretches_in_tenure job zone spans) ts) (flat_map (stretches_in_tenure job zone others) us)
     tenures_told [] [] are = tt
     tenures_told [] (u ∷ us) are = absurd are
@@ -149,8 +149,8 @@ module _ (job : JobView) (doings : Doings) (cs ds : List ℕ) (run other : RunVi
       let one = run_is_replay doings.script (first_stage (start_of job)) cs quiet.maximal.run in
       let two = run_is_replay doings.script (first_stage (start_of job)) ds maximal.run in
       let same = all_agree doings.script (start_of job) cs ds quiet maximal in
-      let left : List Occurrence = filter (λ o. o.channel == c) (occurrences_of board ms) in
-      let right : List Occurrence = filter (λ o. o.channel == c) (occurrences_of board ns) in
+      let left : List OccurrenceView = filter (λ o. o.channel == c) (occurrences_of board ms) in
+      let right : List OccurrenceView = filter (λ o. o.channel == c) (occurrences_of board ns) in
       events_alike board ms ns run.items other.items (zones_first (start_of job) quiet.sound) one.running two.running c (λ j x. ap (λ (clock : ℕ → ℕ). clock x) (clocks_alike doings.script (start_of job) cs ds quiet maximal c j))
       (ap (λ (b : Board). b.state c) (one.board ∙ same.board ∙ sym two.board))
       (ap (λ (rows : List (List Item)). map (telling_of rows) left) by.items ∙ tellings_alike doings (start_of job) cs ds quiet maximal c ∙ ap (λ (rows : List (List Item)). map (telling_of rows) right) (sym also.items))

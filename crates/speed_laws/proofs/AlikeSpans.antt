@@ -17,9 +17,9 @@ use Rattle.sync_types.specs.declared.runs.EventId.{EventId}
 use Rattle.sync_types.specs.declared.Item.{Item}
 use Rattle.sync_types.specs.declared.verdicts.PlaceName.{PlaceName}
 use Rattle.sync_types.specs.declared.verdicts.StretchKind.{StretchKind}
-use Rattle.zone_stretches.specs.Occurrences.{Occurrence}
+use Rattle.zone_stretches.specs.Occurrences.{OccurrenceView}
 use Rattle.zone_stretches.specs.Pieces.{motion_at}
-use Rattle.zone_stretches.specs.Spans.{Beginning, Span, beginning_after, entry_of_beginning, first_beginning, span_until, spans_from, spans_of}
+use Rattle.zone_stretches.specs.Spans.{SpanStartView, Span, beginning_after, entry_of_beginning, first_beginning, span_until, spans_from, spans_of}
 use Rattle.zone_stretches.specs.Stretches.{StretchView, spans_between, spans_until, stretch_between}
 use Rattle.zone_stretches.specs.ZoneBoxes.{boxes_of, shown_box}
 use Rattle.zone_stretches.specs.declared.stretches.ZoneBox.{ZoneBox}
@@ -35,10 +35,10 @@ all_boxes Q each [] = All-nil Q
 all_boxes Q each (box ∷ boxes) = All-cons Q box boxes (each box) (all_boxes Q each boxes)
 
 module _ (b : Board) (ms ns : List Move) (run other : RunView) where
-  abbrev Alike : Occurrence → Occurrence → Type 0
+  abbrev Alike : OccurrenceView → OccurrenceView → Type 0
   Alike = IsAlike b ms ns run.items other.items
 
-  pub record AreAlikeBeginnings (begins also : Beginning) : Type 0 where
+  pub record AreAlikeBeginnings (begins also : SpanStartView) : Type 0 where
     pub kind : begins.kind ≡ also.kind
     pub line : begins.line ≡ also.line
     pub at : begins.at ≡ also.at
@@ -62,7 +62,7 @@ module _ (b : Board) (ms ns : List Move) (run other : RunView) where
   abbrev at_next : List (Option ℤ) → (ℕ → ℤ) → ℕ → ℤ
   at_next at before axis = unwrap_or (position_of at axis) (before axis)
 
-  next_alike : (begins also : Beginning) (o p : Occurrence) → AreAlikeBeginnings begins also → Alike o p → AreAlikeBeginnings (beginning_after begins o) (beginning_after also p)
+  next_alike : (begins also : SpanStartView) (o p : OccurrenceView) → AreAlikeBeginnings begins also → Alike o p → AreAlikeBeginnings (beginning_after begins o) (beginning_after also p)
   next_alike begins also o p are event = record {
     kind = event.kind;
     line = ap₂ unwrap_or event.line are.line;
@@ -71,7 +71,7 @@ module _ (b : Board) (ms ns : List Move) (run other : RunView) where
     first = event.names;
   }
 
-  until_alike : (begins also : Beginning) (o p : Occurrence) → AreAlikeBeginnings begins also → Alike o p → AreAlikeSpans (span_until run.items begins o.name) (span_until other.items also p.name)
+  until_alike : (begins also : SpanStartView) (o p : OccurrenceView) → AreAlikeBeginnings begins also → Alike o p → AreAlikeSpans (span_until run.items begins o.name) (span_until other.items also p.name)
   until_alike begins also o p are event = record {
     begins = are;
     last = event.names;
@@ -86,7 +86,7 @@ module _ (b : Board) (ms ns : List Move) (run other : RunView) where
       by_go false false is items = inr items
       by_go false true is items = absurd cc
 
-  spans_alike : (begins also : Beginning) (os ps : List Occurrence) → AreAlikeBeginnings begins also → AreAlikeEvents b ms ns run.items other.items os ps
+  spans_alike : (begins also : SpanStartView) (os ps : List OccurrenceView) → AreAlikeBeginnings begins also → AreAlikeEvents b ms ns run.items other.items os ps
       → AllAlikeSpans (spans_from run.items begins os) (spans_from other.items also ps)
   spans_alike begins also [] [] are events = (record { begins = are; last = tt; items = refl; entry = inl refl }, tt)
   spans_alike begins also [] (p ∷ ps) are events = absurd events
@@ -94,7 +94,7 @@ module _ (b : Board) (ms ns : List Move) (run other : RunView) where
   spans_alike begins also (o ∷ os) (p ∷ ps) are events =
       (until_alike begins also o p are events.0, spans_alike (beginning_after begins o) (beginning_after also p) os ps (next_alike begins also o p are events.0) events.1)
 
-  pub channel_alike : (job : JobView) (os ps : List Occurrence) (c : ℕ) → AreAlikeEvents b ms ns run.items other.items (filter (λ o. o.channel == c) os) (filter (λ o. o.channel == c) ps)
+  pub channel_alike : (job : JobView) (os ps : List OccurrenceView) (c : ℕ) → AreAlikeEvents b ms ns run.items other.items (filter (λ o. o.channel == c) os) (filter (λ o. o.channel == c) ps)
       → AllAlikeSpans (spans_of job run.items os c) (spans_of job other.items ps c)
   unfolding spans_of
   channel_alike job os ps c events =

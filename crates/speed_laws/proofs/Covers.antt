@@ -15,8 +15,8 @@ use Rattle.path_geometry.specs.declared.motion.Motion.TheVariants.{Line, Rapid}
 use Rattle.path_geometry.specs.declared.motion.Motion.TheVariants as Kind
 use Rattle.zone_stretches.proofs.ShareLaws.{from_of, is_motion, is_open, next_from, next_is_open}
 use Rattle.zone_stretches.specs.ZoneBoxes.{stand_after, moves_zone, sight_of, seen, PlaceBox, Opened, Shut, Waiting, Moving, closed, closed_before, next_open, walk, boxes_of}
-use Rattle.zone_stretches.specs.declared.sights.Sight.{Sight}
-use Rattle.zone_stretches.specs.declared.sights.Sight.TheVariants.{Nothing, Turns, Moves}
+use Rattle.zone_stretches.specs.declared.sights.ZoneEffect.{ZoneEffect}
+use Rattle.zone_stretches.specs.declared.sights.ZoneEffect.TheVariants.{Nothing, Turns, Moves}
 use Rattle.speed_laws.proofs.Positions.{after_is, left_at-cons}
 use Rattle.speed_laws.specs.Doings.{turned, on_after}
 use Rattle.speed_laws.specs.JoinedItems.{Joins, AllJoin}
@@ -78,7 +78,7 @@ seen_moves zone item = by_part item.part refl
     by_part (Switch number on) is = rw is (by_number (number == zone.zone) on)
     by_part (Move motion) is = by_motion (moves_zone zone item)
 
-still_of : (zone : ZoneLine) (item : Item) (s : Sight) → seen zone item ≡ s → is_motion s ≡ false → moves_zone zone item ≡ false
+still_of : (zone : ZoneLine) (item : Item) (s : ZoneEffect) → seen zone item ≡ s → is_motion s ≡ false → moves_zone zone item ≡ false
 still_of zone item s is still = seen_moves zone item ∙ ap is_motion is ∙ still
 
 -- what is seen as a motion is one
@@ -196,7 +196,7 @@ module _ (zone : ZoneLine) (all : List Item) where
       let less : suc place - 1 ≡ place = omega arith in
       ap (λ k. option_and_then motion_of (slice_get all k)) less ∙ ap (option_and_then motion_of) there ∙ motion_seen zone item is
 
-  next_fits : (place : ℕ) (at : ℕ → ℤ) (item : Item) (o : Opened) (s : Sight) → seen zone item ≡ s → slice_get all place ≡ Some item → Joins at item → Fits o at
+  next_fits : (place : ℕ) (at : ℕ → ℤ) (item : Item) (o : Opened) (s : ZoneEffect) → seen zone item ≡ s → slice_get all place ≡ Some item → Joins at item → Fits o at
       → Fits (next_open (suc place) at item o s) (stand_after item at)
   unfolding is_motion
   next_fits place at item Shut Nothing is there joins fits = tt
@@ -233,19 +233,19 @@ module _ (zone : ZoneLine) (all : List Item) where
       by_sight o (seen zone item) refl fits low covers
       (λ o' fits' low' covers'. kept k point some (suc place) o' (stand_after item at) items (rest_next place item items rest) joins.1 fits' low' (omega arith) covers')
     where
-      Goal : Opened → Sight → Type 0
+      Goal : Opened → ZoneEffect → Type 0
       Goal o s = SomeOf (Covers zone all k point) (closed_before place o s ++ walk zone (suc place) (next_open (suc place) at item o s) (stand_after item at) items)
 
       Later : Type 0
       Later = (o' : Opened) → Fits o' (stand_after item at) → from_of o' ≤ k → OpenCovers o' point → SomeOf (Covers zone all k point) (walk zone (suc place) o' (stand_after item at) items)
 
-      next : (o : Opened) (s : Sight) → seen zone item ≡ s → Fits o at → Fits (next_open (suc place) at item o s) (stand_after item at)
+      next : (o : Opened) (s : ZoneEffect) → seen zone item ≡ s → Fits o at → Fits (next_open (suc place) at item o s) (stand_after item at)
       next o s is fits = next_fits place at item o s is (rest_first place item items rest) joins.0 fits
 
       ends : (o : Opened) → Fits o at → from_of o ≤ k → OpenCovers o point → (boxes : List PlaceBox) → SomeOf (Covers zone all k point) (closed place o ++ boxes)
       ends o fits low covers boxes = SomeOf-append_left (Covers zone all k point) (closed place o) boxes (closes k point place o at low high fits covers)
 
-      by_sight : (o : Opened) (s : Sight) → seen zone item ≡ s → Fits o at → from_of o ≤ k → OpenCovers o point → Later → Goal o s
+      by_sight : (o : Opened) (s : ZoneEffect) → seen zone item ≡ s → Fits o at → from_of o ≤ k → OpenCovers o point → Later → Goal o s
       by_sight Shut s is fits low covers later = absurd covers
       by_sight (Waiting from line began) Nothing is fits low covers later = later (Waiting from line began) (next (Waiting from line began) Nothing is fits) low covers
       by_sight (Waiting from line began) (Turns true) is fits low covers later = later (Waiting from line began) (next (Waiting from line began) (Turns true) is fits) low covers
@@ -272,23 +272,23 @@ module _ (zone : ZoneLine) (all : List Item) where
       let here : IsAlong at first point = along_same (left_at [] at) at (left_at-nil at) first point (subst (λ i. IsAlong (left_at [] at) i point) (sym same) along) in
       by_sight o (seen zone first) refl fits low here on
     where
-      Goal : Opened → Sight → Type 0
+      Goal : Opened → ZoneEffect → Type 0
       Goal o s = SomeOf (Covers zone all k point) (closed_before place o s ++ walk zone (suc place) (next_open (suc place) at first o s) (stand_after first at) items)
 
       later : (o' : Opened) → Fits o' (stand_after first at) → from_of o' ≤ suc place → OpenCovers o' point → SomeOf (Covers zone all k point) (walk zone (suc place) o' (stand_after first at) items)
       later o' fits' low' covers' = kept k point some (suc place) o' (stand_after first at) items (rest_next place first items rest) joins.1 fits' (omega arith) (omega arith) covers'
 
-      next : (o : Opened) (s : Sight) → seen zone first ≡ s → Fits o at → Fits (next_open (suc place) at first o s) (stand_after first at)
+      next : (o : Opened) (s : ZoneEffect) → seen zone first ≡ s → Fits o at → Fits (next_open (suc place) at first o s) (stand_after first at)
       next o s is fits = next_fits place at first o s is (rest_first place first items rest) joins.0 fits
 
-      stand : (s : Sight) → seen zone first ≡ s → is_motion s ≡ false → IsAlong at first point → (axis : ℕ) → has_axis zone axis ≡ true → StandsAt point axis (at axis)
+      stand : (s : ZoneEffect) → seen zone first ≡ s → is_motion s ≡ false → IsAlong at first point → (axis : ℕ) → has_axis zone axis ≡ true → StandsAt point axis (at axis)
       stand s is still here axis has = here.others axis (not_moved zone first axis (still_of zone first s is still) has)
 
-      goes_on : (o : Opened) (s : Sight) → seen zone first ≡ s → is_motion s ≡ false → is_open o ≡ true → Fits o at → from_of o ≤ place → IsAlong at first point
+      goes_on : (o : Opened) (s : ZoneEffect) → seen zone first ≡ s → is_motion s ≡ false → is_open o ≡ true → Fits o at → from_of o ≤ place → IsAlong at first point
           → Fits o (stand_after first at) → SomeOf (Covers zone all k point) (walk zone (suc place) o (stand_after first at) items)
       goes_on o s is still opened fits low here fits' = later o fits' (omega arith) (stand_covered o at point some fits opened (stand s is still here))
 
-      by_sight : (o : Opened) (s : Sight) → seen zone first ≡ s → Fits o at → from_of o ≤ place → IsAlong at first point → turned (is_open o) s ≡ true → Goal o s
+      by_sight : (o : Opened) (s : ZoneEffect) → seen zone first ≡ s → Fits o at → from_of o ≤ place → IsAlong at first point → turned (is_open o) s ≡ true → Goal o s
       by_sight Shut Nothing is fits low here on = absurd cc
       by_sight Shut (Turns true) is fits low here on = later (Waiting (suc place) first.line at) (next Shut (Turns true) is fits) (omega arith) (stand (Turns true) is refl here)
       by_sight Shut (Turns false) is fits low here on = absurd cc

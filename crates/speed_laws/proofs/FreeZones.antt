@@ -45,11 +45,11 @@ use Rattle.sync_types.specs.Turns.{AreOfRunning, Move, after_moves, after_step, 
 use Rattle.sync_types.specs.declared.Step.{Step}
 use Rattle.zone_stretches.proofs.HandLaws.{IsFor, carry_to, owner_next, owners_next, release_frees, release_holds, step_hands}
 use Rattle.zone_stretches.proofs.HandLaws.{carry_none}
-use Rattle.zone_stretches.specs.Occurrences.{Occurrence, act_of, going_on_of, occurrences_in, occurrences_from, occurrences_of}
+use Rattle.zone_stretches.specs.Occurrences.{OccurrenceView, act_of, going_on_of, occurrences_in, occurrences_from, occurrences_of}
 use Rattle.zone_stretches.specs.SoundStretches.{IsZoneOf}
-use Rattle.zone_stretches.specs.Spans.{Beginning, is_on_at_first}
+use Rattle.zone_stretches.specs.Spans.{SpanStartView, is_on_at_first}
 use Rattle.zone_stretches.specs.Stretches.{StretchView, free_stretch, stretch_of_span, stretches_of_zone}
-use Rattle.zone_stretches.specs.Tenures.{Tenure, carry, changes_hands, first_tenure, tenures_of}
+use Rattle.zone_stretches.specs.Tenures.{TenureView, carry, changes_hands, first_tenure, tenures_of}
 
 -- ---- those that go on in a step
 
@@ -78,13 +78,13 @@ module _ (zone : ZoneLine) (i : ℕ) (all : List Going) where
         (rest.0, λ h within. elim within [ inl same ↦ ap (λ (k : Going). carry zone (among k.took)) same ∙ off | inr later ↦ rest.1 h later ])
   ]
 
-  last_stays : (gs : List Going) (last : Option Occurrence) → ((g : Going) → IsIn g gs → carry zone (among g.took) ≡ false) → last_hand zone last (map (going_on_of i all) gs) ≡ last
+  last_stays : (gs : List Going) (last : Option OccurrenceView) → ((g : Going) → IsIn g gs → carry zone (among g.took) ≡ false) → last_hand zone last (map (going_on_of i all) gs) ≡ last
   last_stays [] last off = refl
   last_stays (g ∷ gs) last off =
       let here : changes_hands zone (going_on_of i all g) ≡ false = rw (carry_none zone, off g (inl refl)) refl in
       ap (λ (t : Bool). last_hand zone (cond t (Some (going_on_of i all g)) last) (map (going_on_of i all) gs)) here ∙ last_stays gs last (λ h within. off h (inr within))
 
-last_append : (zone : ZoneLine) (last : Option Occurrence) (os ps : List Occurrence) → last_hand zone last (os ++ ps) ≡ last_hand zone (last_hand zone last os) ps
+last_append : (zone : ZoneLine) (last : Option OccurrenceView) (os ps : List OccurrenceView) → last_hand zone last (os ++ ps) ≡ last_hand zone (last_hand zone last os) ps
 last_append zone last [] ps = refl
 last_append zone last (o ∷ os) ps = last_append zone (cond (changes_hands zone o) (Some o) last) os ps
 
@@ -105,24 +105,24 @@ in_goings b p step g within =
 
 module _ (job : JobView) (zone : ZoneLine) where
   -- by the event in which it changed hands last, or as the job begins
-  abbrev pub stands_by : Option Occurrence → ℕ → ℤ
+  abbrev pub stands_by : Option OccurrenceView → ℕ → ℤ
   stands_by None = start_position job
   stands_by (Some o) = stands o.at
 
-  abbrev pub is_on_by : Option Occurrence → ℕ → Bool
+  abbrev pub is_on_by : Option OccurrenceView → ℕ → Bool
   is_on_by None = is_on_at_first job
   is_on_by (Some o) = has o.on
 
-  pub record StandsBy (last : Option Occurrence) (b : Board) : Type 0 where
+  pub record StandsBy (last : Option OccurrenceView) (b : Board) : Type 0 where
     pub at : (axis : ℕ) → has_axis zone axis ≡ true → stands_by last axis ≡ free_position (b.axis axis)
     pub on : is_on_by last zone.zone ≡ b.is_on zone.zone
 
   -- the board has it so while nobody holds it
-  abbrev pub IsFreeBy : Option Occurrence → Board → Type 0
+  abbrev pub IsFreeBy : Option OccurrenceView → Board → Type 0
   IsFreeBy last b = b.holder zone.zone ≡ None → StandsBy last b
 
   module _ (b : Board) (p i : ℕ) (step : Step) (zs : Zones b) (running : is_running (b.state p) ≡ true) (for : IsFor zone b) where
-    abbrev act : Occurrence
+    abbrev act : OccurrenceView
     act = act_of i step (happening_of b p step)
 
     -- an axis that the act lets go stands where its step tells
@@ -163,7 +163,7 @@ module _ (job : JobView) (zone : ZoneLine) where
             on = sym (on_after_step b p step zs running zone.zone ∙ ap (λ (t : Bool). cond t (has step.on zone.zone) (b.is_on zone.zone)) mine);
           }
 
-      kept : (last : Option Occurrence) → carry zone (among (happening_of b p step).frees) ≡ false → IsFreeBy last b → StandsBy last (after_step b p step)
+      kept : (last : Option OccurrenceView) → carry zone (among (happening_of b p step).frees) ≡ false → IsFreeBy last b → StandsBy last (after_step b p step)
       kept last off was =
           let same : owner_next zone (b.holder zone.zone) act ≡ b.holder zone.zone = rw (off, carry_none zone) refl in
           let old : b.holder zone.zone ≡ None = sym same ∙ quiet.0 in
@@ -182,7 +182,7 @@ module _ (job : JobView) (zone : ZoneLine) where
             | inl in_it ↦ no_truth (carry zone (among (happening_of b p step).frees)) (carry_to zone (among (happening_of b p step).frees) x carries in_it) off
           ]
 
-      by_act : (last : Option Occurrence) → IsFreeBy last b → StandsBy (cond (changes_hands zone act) (Some act) last) (after_step b p step)
+      by_act : (last : Option OccurrenceView) → IsFreeBy last b → StandsBy (cond (changes_hands zone act) (Some act) last) (after_step b p step)
       by_act last was = elim (cases_Bool (carry zone (among (happening_of b p step).frees))) [
         | inl on ↦
             let changes : changes_hands zone act ≡ true = rw on refl in
@@ -193,18 +193,18 @@ module _ (job : JobView) (zone : ZoneLine) where
       ]
 
     -- so it is after the step
-    step_free : (last : Option Occurrence) → IsFreeBy last b → IsFreeBy (last_hand zone last (occurrences_in i step (happening_of b p step))) (after_step b p step)
+    step_free : (last : Option OccurrenceView) → IsFreeBy last b → IsFreeBy (last_hand zone last (occurrences_in i step (happening_of b p step))) (after_step b p step)
     step_free last was free =
-        subst (λ (l : Option Occurrence). StandsBy l (after_step b p step))
+        subst (λ (l : Option OccurrenceView). StandsBy l (after_step b p step))
         (sym (last_stays zone i (goings_in_step b p step) (goings_in_step b p step) (cond (changes_hands zone act) (Some act) last) (quiet free).1)) (by_act free last was)
 
   -- and after a run
-  run_free : (ms : List Move) (b : Board) (i : ℕ) (last : Option Occurrence) → Zones b → IsFor zone b → AreOfRunning b ms → IsFreeBy last b → IsFreeBy (last_hand zone last (occurrences_from b i ms)) (after_moves b ms)
+  run_free : (ms : List Move) (b : Board) (i : ℕ) (last : Option OccurrenceView) → Zones b → IsFor zone b → AreOfRunning b ms → IsFreeBy last b → IsFreeBy (last_hand zone last (occurrences_from b i ms)) (after_moves b ms)
   run_free [] b i last zs for run was = was
   run_free (m ∷ ms) b i last zs for run was =
       let next = after_step b m.channel m.step in
       let here = occurrences_in i m.step (happening_of b m.channel m.step) in
-      subst (λ (l : Option Occurrence). IsFreeBy l (after_moves next ms)) (sym (last_append zone last here (occurrences_from next (suc i) ms)))
+      subst (λ (l : Option OccurrenceView). IsFreeBy l (after_moves next ms)) (sym (last_append zone last here (occurrences_from next (suc i) ms)))
       (run_free ms next (suc i) (last_hand zone last here) (zones_step b m.channel m.step zs) (step_hands b m zone i zs for).2 run.1 (step_free b m.channel i m.step zs run.0 for last was))
 
   first_free : IsSoundJob job → IsSound (start_of job) → IsZoneOf (start_of job) zone → find (λ z. z.zone == zone.zone) job.zones ≡ Some zone → IsFreeBy None (first_board (start_of job))
@@ -218,22 +218,22 @@ module _ (job : JobView) (zone : ZoneLine) where
 -- ---- in the run that speaks
 
 -- a tenure begins as the board has the zone
-pub record BeginsAsBoard (zone : ZoneLine) (b : Board) (t : Tenure) : Type 0 where
+pub record BeginsAsBoard (zone : ZoneLine) (b : Board) (t : TenureView) : Type 0 where
   pub at : (axis : ℕ) → has_axis zone axis ≡ true → t.begins.at axis ≡ free_position (b.axis axis)
   pub on : t.begins.on zone.zone ≡ b.is_on zone.zone
 
 module _ (job : JobView) (doings : Doings) (qs rs : List ℕ) (quiet : IsQuietRun doings.script (start_of job) qs) (run : IsRunOf doings.script (start_of job) rs) (zone : ZoneLine) where
-  abbrev speaking : List Occurrence
+  abbrev speaking : List OccurrenceView
   speaking = occurrences_from (first_board (start_of job)) 0 (moves_by doings.script (start_of job) qs)
 
-  abbrev made : List Occurrence
+  abbrev made : List OccurrenceView
   made = occurrences_from (first_board (start_of job)) 0 (moves_by doings.script (start_of job) rs)
 
   abbrev board : Board
   board = (stage_after doings.script (first_stage (start_of job)) rs).board
 
   -- events at one place tell the same
-  alike_told : (e : Place) (o p : Occurrence) → among channel_numbers e.channel ≡ true → At made e o → At speaking e p
+  alike_told : (e : Place) (o p : OccurrenceView) → among channel_numbers e.channel ≡ true → At made e o → At speaking e p
       → telling_of (items_by doings (first_stage (start_of job)) qs) p ≡ telling_of (items_by doings (first_stage (start_of job)) rs) o
   alike_told e o p known at_made at_speaking =
       let k = e.place - 1 in
@@ -246,11 +246,11 @@ module _ (job : JobView) (doings : Doings) (qs rs : List ℕ) (quiet : IsQuietRu
       slice_get-map (telling_of (items_by doings (first_stage (start_of job)) qs)) (filter (λ q. q.channel == e.channel) speaking) k ∙ ap (option_map (telling_of (items_by doings (first_stage (start_of job)) qs))) at_speaking in
       same_Some _ _ (sym there ∙ ap (λ (ts : List Telling). slice_get ts k) told.1 ∙ slice_get-append_left ours told.0 k (slice_get_within ours k _ here) ∙ here)
 
-  begins_so : (t : Tenure) (place : Option Place) (last : Option Occurrence) → IsPlaceOf made place last → BeginsBy speaking (first_tenure job zone).begins place t.begins → StandsBy job zone last board
+  begins_so : (t : TenureView) (place : Option Place) (last : Option OccurrenceView) → IsPlaceOf made place last → BeginsBy speaking (first_tenure job zone).begins place t.begins → StandsBy job zone last board
       → BeginsAsBoard zone board t
   begins_so t None None is begins stands_so = record {
-    at = λ x carries. ap (λ (b : Beginning). b.at x) begins ∙ stands_so.at x carries;
-    on = ap (λ (b : Beginning). b.on zone.zone) begins ∙ stands_so.on;
+    at = λ x carries. ap (λ (b : SpanStartView). b.at x) begins ∙ stands_so.at x carries;
+    on = ap (λ (b : SpanStartView). b.on zone.zone) begins ∙ stands_so.on;
   }
   begins_so t (Some e) (Some o) is begins stands_so =
       let same = alike_told e o begins.0 is.1 is.0 begins.1 in
@@ -263,7 +263,7 @@ module _ (job : JobView) (doings : Doings) (qs rs : List ℕ) (quiet : IsQuietRu
 
   module _ (sound : IsSoundJob job) (there : IsZoneOf (start_of job) zone) (by_number : find (λ z. z.zone == zone.zone) job.zones ≡ Some zone) where
     -- where nobody holds the zone, a tenure that begins with the last change of hands begins as the board has it
-    pub begins_as_board : (stage_after doings.script (first_stage (start_of job)) rs).board.holder zone.zone ≡ None → (t : Tenure)
+    pub begins_as_board : (stage_after doings.script (first_stage (start_of job)) rs).board.holder zone.zone ≡ None → (t : TenureView)
         → BeginsWithLast (occurrences_of (first_board (start_of job)) (moves_by doings.script (start_of job) qs)) (occurrences_of (first_board (start_of job)) (moves_by doings.script (start_of job) rs)) zone
         (first_tenure job zone).begins t
         → BeginsAsBoard zone (stage_after doings.script (first_stage (start_of job)) rs).board t
@@ -275,13 +275,13 @@ module _ (job : JobView) (doings : Doings) (qs rs : List ℕ) (quiet : IsQuietRu
         begins_so t begins.place (last_hand zone None made) begins.last begins.begins
         (subst (λ (b : Board). b.holder zone.zone ≡ None → StandsBy job zone (last_hand zone None made) b) replay.board stands_so free)
 
-    abbrev events : List Occurrence
+    abbrev events : List OccurrenceView
     events = occurrences_of (first_board (start_of job)) (moves_by doings.script (start_of job) qs)
 
-    abbrev tenures : List Tenure
+    abbrev tenures : List TenureView
     tenures = tenures_of job events zone
 
-    abbrev Present : Option ℕ → Tenure → Type 0
+    abbrev Present : Option ℕ → TenureView → Type 0
     Present = IsPresent events (first_tenure job zone) (made_counts doings.script (start_of job) qs rs quiet run)
 
     -- so does the present tenure
@@ -301,7 +301,7 @@ module _ (job : JobView) (doings : Doings) (qs rs : List ℕ) (quiet : IsQuietRu
     StandsNow stretch =
         ((c : ℕ) × ((stage_after doings.script (first_stage (start_of job)) rs).board.holder zone.zone ≡ Some c) × (span : PresentSpan job doings qs rs quiet run c) × (stretch ≡ stretch_of_span job zone c span.span))
         ⊎ (((stage_after doings.script (first_stage (start_of job)) rs).board.holder zone.zone ≡ None)
-        × (t : Tenure) × BeginsAsBoard zone (stage_after doings.script (first_stage (start_of job)) rs).board t × (stretch ≡ free_stretch job zone t))
+        × (t : TenureView) × BeginsAsBoard zone (stage_after doings.script (first_stage (start_of job)) rs).board t × (stretch ≡ free_stretch job zone t))
 
     known : (c : ℕ) → board.holder zone.zone ≡ Some c → among channel_numbers c ≡ true
     known = holder_known (start_of job) doings.script rs zone quiet.sound quiet.numbers run there

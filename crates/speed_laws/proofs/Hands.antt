@@ -28,7 +28,7 @@ use Rattle.sync_types.specs.declared.Action.TheVariants.{End as Ends}
 use Rattle.sync_types.specs.declared.Step.{Step}
 use Rattle.zone_stretches.proofs.EventLaws.{Once}
 use Rattle.zone_stretches.proofs.NameLaws.{in_mapped}
-use Rattle.zone_stretches.specs.Occurrences.{Occurrence, going_on_of, occurrences_in, occurrences_from, occurrences_of}
+use Rattle.zone_stretches.specs.Occurrences.{OccurrenceView, going_on_of, occurrences_in, occurrences_from, occurrences_of}
 use Rattle.zone_stretches.specs.Tenures.{counted}
 
 -- ---- the events of the first steps
@@ -40,10 +40,10 @@ abbrev step_in : Option Move → Step
 step_in (Some m) = m.step
 step_in None = no_step
 
-abbrev in_step : ℕ → Board → List Move → ℕ → List Occurrence
+abbrev in_step : ℕ → Board → List Move → ℕ → List OccurrenceView
 in_step k b moves n = occurrences_in (k + n) (step_in (move_at moves n)) (happening_at b moves n)
 
-abbrev upto : ℕ → Board → List Move → ℕ → List Occurrence
+abbrev upto : ℕ → Board → List Move → ℕ → List OccurrenceView
 upto k b moves zero = []
 upto k b moves (suc n) = upto k b moves n ++ in_step k b moves n
 
@@ -55,38 +55,38 @@ first_then k b m ms zero =
 first_then k b m ms (suc n) =
     let same : k + suc n ≡ suc k + n = omega arith in
     let next = after_step b m.channel m.step in
-    ap₂ (λ (xs ys : List Occurrence). xs ++ ys) (first_then k b m ms n) (ap (λ (j : ℕ). occurrences_in j (step_in (move_at ms n)) (happening_at next ms n)) same)
+    ap₂ (λ (xs ys : List OccurrenceView). xs ++ ys) (first_then k b m ms n) (ap (λ (j : ℕ). occurrences_in j (step_in (move_at ms n)) (happening_at next ms n)) same)
     ∙ append_assoc (occurrences_in k m.step (happening_of b m.channel m.step)) (upto (suc k) next ms n) (in_step (suc k) next ms n)
 
 all_upto : (ms : List Move) (b : Board) (k : ℕ) → occurrences_from b k ms ≡ upto k b ms (length ms)
 all_upto [] b k = refl
 all_upto (m ∷ ms) b k =
     let next = after_step b m.channel m.step in
-    ap (λ (xs : List Occurrence). occurrences_in k m.step (happening_of b m.channel m.step) ++ xs) (all_upto ms next (suc k)) ∙ sym (first_then k b m ms (length ms))
+    ap (λ (xs : List OccurrenceView). occurrences_in k m.step (happening_of b m.channel m.step) ++ xs) (all_upto ms next (suc k)) ∙ sym (first_then k b m ms (length ms))
 
 -- ---- tenures by events
 
 -- from the next event of the channel on
-abbrev pub next_place : (ℕ → ℕ) → Occurrence → Place
+abbrev pub next_place : (ℕ → ℕ) → OccurrenceView → Place
 next_place counts o = record { channel = o.channel; place = suc (counts o.channel) }
 
 -- an event lets the axis go, or takes it, or neither
-abbrev pub hand : ℕ → (ℕ → ℕ) → Occurrence → List Tenure → List Tenure
+abbrev pub hand : ℕ → (ℕ → ℕ) → OccurrenceView → List Tenure → List Tenure
 hand x counts o ts = if o.frees x then tenures_handed_on None (counts o.channel) (next_place counts o) ts else if o.takes x then tenures_handed_on (Some o.channel) 0 (next_place counts o) ts else ts
 
-abbrev pub hands : ℕ → (ℕ → ℕ) → List Tenure → List Occurrence → List Tenure
+abbrev pub hands : ℕ → (ℕ → ℕ) → List Tenure → List OccurrenceView → List Tenure
 hands x counts ts [] = ts
 hands x counts ts (o ∷ os) = hands x (counted counts o.channel) (hand x counts o ts) os
 
-abbrev pub counts_after : (ℕ → ℕ) → List Occurrence → ℕ → ℕ
+abbrev pub counts_after : (ℕ → ℕ) → List OccurrenceView → ℕ → ℕ
 counts_after counts [] = counts
 counts_after counts (o ∷ os) = counts_after (counted counts o.channel) os
 
-pub hands_append : (x : ℕ) (counts : ℕ → ℕ) (ts : List Tenure) (xs ys : List Occurrence) → hands x counts ts (xs ++ ys) ≡ hands x (counts_after counts xs) (hands x counts ts xs) ys
+pub hands_append : (x : ℕ) (counts : ℕ → ℕ) (ts : List Tenure) (xs ys : List OccurrenceView) → hands x counts ts (xs ++ ys) ≡ hands x (counts_after counts xs) (hands x counts ts xs) ys
 hands_append x counts ts [] ys = refl
 hands_append x counts ts (o ∷ xs) ys = hands_append x (counted counts o.channel) (hand x counts o ts) xs ys
 
-pub counts_append : (counts : ℕ → ℕ) (xs ys : List Occurrence) → counts_after counts (xs ++ ys) ≡ counts_after (counts_after counts xs) ys
+pub counts_append : (counts : ℕ → ℕ) (xs ys : List OccurrenceView) → counts_after counts (xs ++ ys) ≡ counts_after (counts_after counts xs) ys
 counts_append counts [] ys = refl
 counts_append counts (o ∷ xs) ys = counts_append (counted counts o.channel) xs ys
 
@@ -94,13 +94,13 @@ counts_append counts (o ∷ xs) ys = counts_append (counted counts o.channel) xs
 counted_same : (f g : ℕ → ℕ) (c : ℕ) → ((d : ℕ) → f d ≡ g d) → (d : ℕ) → counted f c d ≡ counted g c d
 counted_same f g c same d = ap (λ (n : ℕ). cond (d == c) (suc n) n) (same d)
 
-hands_same : (x : ℕ) (f g : ℕ → ℕ) (ts : List Tenure) (os : List Occurrence) → ((d : ℕ) → f d ≡ g d) → hands x f ts os ≡ hands x g ts os
+hands_same : (x : ℕ) (f g : ℕ → ℕ) (ts : List Tenure) (os : List OccurrenceView) → ((d : ℕ) → f d ≡ g d) → hands x f ts os ≡ hands x g ts os
 hands_same x f g ts [] same = refl
 hands_same x f g ts (o ∷ os) same =
     hands_same x (counted f o.channel) (counted g o.channel) (hand x f o ts) os (counted_same f g o.channel same)
     ∙ ap (λ (n : ℕ). hands x (counted g o.channel) (if o.frees x then tenures_handed_on None n (record { channel = o.channel; place = suc n }) ts else if o.takes x then tenures_handed_on (Some o.channel) 0 (record { channel = o.channel; place = suc n }) ts else ts) os) (same o.channel)
 
-after_same : (f g : ℕ → ℕ) (os : List Occurrence) → ((d : ℕ) → f d ≡ g d) → (d : ℕ) → counts_after f os d ≡ counts_after g os d
+after_same : (f g : ℕ → ℕ) (os : List OccurrenceView) → ((d : ℕ) → f d ≡ g d) → (d : ℕ) → counts_after f os d ≡ counts_after g os d
 after_same f g [] same d = same d
 after_same f g (o ∷ os) same d = after_same (counted f o.channel) (counted g o.channel) os (counted_same f g o.channel same) d
 
@@ -329,4 +329,4 @@ tenures_read b moves x zs run =
 pub counts_read : (b : Board) (moves : List Move) (c : ℕ) → Zones b → AreOfRunning b moves → counts_after (λ d. 0) (occurrences_of b moves) c ≡ counts_at b moves (length moves) c
 unfolding occurrences_of
 counts_read b moves c zs run =
-    ap (λ (os : List Occurrence). counts_after (λ d. 0) os c) (all_upto moves b 0) ∙ (read_upto b moves zs run (length moves) (omega arith)).counts c
+    ap (λ (os : List OccurrenceView). counts_after (λ d. 0) os c) (all_upto moves b 0) ∙ (read_upto b moves zs run (length moves) (omega arith)).counts c

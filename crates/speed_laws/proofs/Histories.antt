@@ -21,7 +21,7 @@ use Rattle.sync_types.specs.Views.{StartView}
 use Rattle.sync_types.specs.declared.Grant.{Grant}
 use Rattle.sync_types.specs.declared.Item.{Item}
 use Rattle.sync_types.specs.declared.Step.{Step}
-use Rattle.zone_stretches.specs.Occurrences.{Occurrence, act_of, going_on_of, occurrences_in, occurrences_from, occurrences_of}
+use Rattle.zone_stretches.specs.Occurrences.{OccurrenceView, act_of, going_on_of, occurrences_in, occurrences_from, occurrences_of}
 
 -- what is so of the grants to come: who does not run and gets none does not run at last, and who has stopped gets none
 pub record Ahead (s : State) (more : List Grant) (at_last : Bool) : Type 0 where
@@ -87,7 +87,7 @@ module _ (doings : Doings) (stage : Stage) (p i : ℕ) (rows : List (List Item))
   abbrev added : ℕ → List Grant
   added c = cond (gets_a_grant stage.board p c) (as_list (grant_in (state_after c))) []
 
-  abbrev events : ℕ → List Occurrence
+  abbrev events : ℕ → List OccurrenceView
   events c = cond (p == c) (act_of i step (happening_of stage.board p step) ∷ []) [] ++ map (going_on_of i goings) (as_goings (going_of goings c))
 
   record StepTold (c : ℕ) (more : List Grant) (at_last : Bool) : Type 0 where

@@ -39,7 +39,7 @@ use Rattle.sync_types.specs.Views.{StartView}
 use Rattle.sync_types.specs.declared.runs.EventId.{EventId}
 use Rattle.zone_stretches.proofs.EventLaws.{IsTold, all_told, own_name}
 use Rattle.zone_stretches.proofs.NameLaws.{listed}
-use Rattle.zone_stretches.specs.Occurrences.{Occurrence, act_of, going_on_of, occurrences_in, occurrences_from, occurrences_of}
+use Rattle.zone_stretches.specs.Occurrences.{OccurrenceView, act_of, going_on_of, occurrences_in, occurrences_from, occurrences_of}
 use Rattle.zone_stretches.specs.Overlaps.{Order}
 
 -- ---- past events
@@ -190,12 +190,12 @@ pub own_names : (b : Board) (moves : List Move) (c : ℕ) → AreOfRunning b mov
 unfolding occurrences_of
 own_names b moves c run zs = names_from moves b 0 c run zs ∙ shift_none (events_upto b moves c (length moves))
 
-event_there : (os : List Occurrence) (k : ℕ) (o : Occurrence) → slice_get os k ≡ Some o → event_in (map own_name os) k ≡ Some (own_name o)
+event_there : (os : List OccurrenceView) (k : ℕ) (o : OccurrenceView) → slice_get os k ≡ Some o → event_in (map own_name os) k ≡ Some (own_name o)
 event_there [] k o is = absurd cc
-event_there (p ∷ os) zero o is = let same : p ≡ o = cc in ap (λ (q : Occurrence). Some (own_name q)) same
+event_there (p ∷ os) zero o is = let same : p ≡ o = cc in ap (λ (q : OccurrenceView). Some (own_name q)) same
 event_there (p ∷ os) (suc k) o is = event_there os k o is
 
-pub kept_holds : (P : Occurrence → Type 0) (test : Occurrence → Bool) (os : List Occurrence) (k : ℕ) (o : Occurrence) → All P os → slice_get (filter test os) k ≡ Some o → P o
+pub kept_holds : (P : OccurrenceView → Type 0) (test : OccurrenceView → Bool) (os : List OccurrenceView) (k : ℕ) (o : OccurrenceView) → All P os → slice_get (filter test os) k ≡ Some o → P o
 kept_holds P test [] k o all is = absurd cc
 kept_holds P test (p ∷ os) k o all is = by_test (test p) k is (λ j there. kept_holds P test os j o (All-tail P p os all) there)
   where
@@ -209,7 +209,7 @@ pub record PlaceTold (b : Board) (moves : List Move) (c k : ℕ) (e : EventId) :
   pub own : row (course_of b moves) e c ≡ suc k
   pub clock : (x : ℕ) → row (course_of b moves) e x ≡ clocks_at b moves (length moves) c (suc k) x
 
-pub place_told : (b : Board) (moves : List Move) (c k : ℕ) (o : Occurrence) → AreOfRunning b moves → Zones b → slice_get (filter (λ o. o.channel == c) (occurrences_of b moves)) k ≡ Some o → PlaceTold b moves c k o.name
+pub place_told : (b : Board) (moves : List Move) (c k : ℕ) (o : OccurrenceView) → AreOfRunning b moves → Zones b → slice_get (filter (λ o. o.channel == c) (occurrences_of b moves)) k ≡ Some o → PlaceTold b moves c k o.name
 place_told b moves c k o run zs is =
     let told = kept_holds (IsTold b moves) (λ p. p.channel == c) (occurrences_of b moves) k o (all_told b moves run) is in
     let same = one_row (course_of b moves) o.name (own_name o) (one_in b moves o.name (own_name o) told.own) in
@@ -332,11 +332,11 @@ module _ (script : Script) (start : StartView) (qs rs : List ℕ) (quiet : IsQui
   speaking_runs : AreOfRunning board speaking
   speaking_runs = (run_is_replay script (first_stage start) qs quiet.maximal.run).running
 
-  told : (c k : ℕ) (o : Occurrence) → slice_get (filter (λ o. o.channel == c) (occurrences_of (first_board start) (moves_by script start qs))) k ≡ Some o → PlaceTold board speaking c k o.name
+  told : (c k : ℕ) (o : OccurrenceView) → slice_get (filter (λ o. o.channel == c) (occurrences_of (first_board start) (moves_by script start qs))) k ≡ Some o → PlaceTold board speaking c k o.name
   told c k o is = place_told board speaking c k o speaking_runs (zones_first start quiet.sound) is
 
   -- the first events of each channel are past
-  pub first_are_past : (c k : ℕ) (o : Occurrence) → slice_get (filter (λ o. o.channel == c) (occurrences_of (first_board start) (moves_by script start qs))) k ≡ Some o → k < made_counts c
+  pub first_are_past : (c k : ℕ) (o : OccurrenceView) → slice_get (filter (λ o. o.channel == c) (occurrences_of (first_board start) (moves_by script start qs))) k ≡ Some o → k < made_counts c
       → is_past (first_board start) (moves_by script start qs) made_counts o.name ≡ true
   first_are_past c k o is below =
       let t = told c k o is in
@@ -348,7 +348,7 @@ module _ (script : Script) (start : StartView) (qs rs : List ℕ) (quiet : IsQui
       omega (arith, one, two, three, four))
 
   -- and the others are not
-  pub others_are_not : (c k : ℕ) (o : Occurrence) → slice_get (filter (λ o. o.channel == c) (occurrences_of (first_board start) (moves_by script start qs))) k ≡ Some o → made_counts c ≤ k → among channel_numbers c ≡ true
+  pub others_are_not : (c k : ℕ) (o : OccurrenceView) → slice_get (filter (λ o. o.channel == c) (occurrences_of (first_board start) (moves_by script start qs))) k ≡ Some o → made_counts c ≤ k → among channel_numbers c ≡ true
       → is_past (first_board start) (moves_by script start qs) made_counts o.name ≡ false
   others_are_not c k o is above there =
       let own = (told c k o is).own in

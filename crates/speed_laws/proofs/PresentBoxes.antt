@@ -13,9 +13,9 @@ use Rattle.number_laws.proofs.Lists.{SomeOf}
 use Rattle.number_laws.specs.Fractions.{Fraction, IsIn, whole}
 use Rattle.path_geometry.specs.Path.{Point}
 use Rattle.zone_stretches.specs.SoundStretches.{IsZoneOf}
-use Rattle.zone_stretches.specs.Spans.{Beginning, entry_of_beginning, is_on_at_first}
+use Rattle.zone_stretches.specs.Spans.{SpanStartView, entry_of_beginning, is_on_at_first}
 use Rattle.zone_stretches.specs.Stretches.{StretchView, free_stretch, stretch_of_span}
-use Rattle.zone_stretches.specs.Tenures.{Tenure}
+use Rattle.zone_stretches.specs.Tenures.{TenureView}
 use Rattle.zone_stretches.specs.ZoneBoxes.{boxes_of}
 use Rattle.schedule_laws.specs.Schedules.{IsQuietRun}
 use Rattle.speed_laws.proofs.BoxPieces.{AxesWithin}
@@ -105,7 +105,7 @@ module _ (job : JobView) (doings : Doings) (sound : IsSoundJob job) (are : AreSo
     abbrev InBox : StretchView → Type 0
     InBox stretch = SomeOf (λ box. HoldsPlace places stretch box × IsInPiece job run point zone stretch box) stretch.boxes
 
-    free_in_box : board.holder zone.zone ≡ None → (t : Tenure) → BeginsAsBoard zone board t → InBox (free_stretch job zone t)
+    free_in_box : board.holder zone.zone ≡ None → (t : TenureView) → BeginsAsBoard zone board t → InBox (free_stretch job zone t)
     free_in_box free t stands =
         let here : Point = record { top = t.begins.at; under = 1 } in
         in_stretch job run (position_now job doings state) zone z.directions None t.begins t.last (entry_of_beginning t.begins) [] places 0 here tt
@@ -113,7 +113,7 @@ module _ (job : JobView) (doings : Doings) (sound : IsSoundJob job) (are : AreSo
         (standing_covers zone (slice_index_or run.items (entry_of_beginning t.begins) []) t.begins.line t.begins.at (t.begins.on zone.zone) here (stands.on ∙ sym (free_on free) ∙ on) (λ axis carries. one_under (t.begins.at axis)))
 
     module _ (c : ℕ) (held : board.holder zone.zone ≡ Some c) (span : PresentSpan job doings qs state.run quiet well.run c) where
-      abbrev begins : Beginning
+      abbrev begins : SpanStartView
       begins = span.span.begins
 
       -- the span begins where the channel's axes stand

@@ -28,22 +28,22 @@ use Rattle.sync_types.specs.declared.Item.{Item}
 use Rattle.sync_types.specs.declared.runs.EventId.{EventId}
 use Rattle.zone_stretches.proofs.EventLaws.{own_name}
 use Rattle.zone_stretches.proofs.NameLaws.{occurrences_named}
-use Rattle.zone_stretches.specs.Occurrences.{Occurrence, occurrences_from, occurrences_of}
-use Rattle.zone_stretches.specs.Spans.{Beginning, Span, beginning_after, entry_of_beginning, first_beginning, is_on_at_first, span_to_end, span_until, spans_from, spans_of}
+use Rattle.zone_stretches.specs.Occurrences.{OccurrenceView, occurrences_from, occurrences_of}
+use Rattle.zone_stretches.specs.Spans.{SpanStartView, Span, beginning_after, entry_of_beginning, first_beginning, is_on_at_first, span_to_end, span_until, spans_from, spans_of}
 
 -- ---- spans by events
 
 -- how a time begins after these events
-abbrev pub begins_after : Beginning → List Occurrence → Beginning
+abbrev pub begins_after : SpanStartView → List OccurrenceView → SpanStartView
 begins_after b [] = b
 begins_after b (o ∷ os) = begins_after (beginning_after b o) os
 
 -- the span that begins so, with these events to come
-abbrev pub span_next : List (List Item) → Beginning → List Occurrence → Span
+abbrev pub span_next : List (List Item) → SpanStartView → List OccurrenceView → Span
 span_next rows b [] = span_to_end b
 span_next rows b (o ∷ os) = span_until rows b o.name
 
-pub span_there : (rows : List (List Item)) (b : Beginning) (xs ys : List Occurrence) → slice_get (spans_from rows b (xs ++ ys)) (length xs) ≡ Some (span_next rows (begins_after b xs) ys)
+pub span_there : (rows : List (List Item)) (b : SpanStartView) (xs ys : List OccurrenceView) → slice_get (spans_from rows b (xs ++ ys)) (length xs) ≡ Some (span_next rows (begins_after b xs) ys)
 span_there rows b [] [] = refl
 span_there rows b [] (y ∷ ys) = refl
 span_there rows b (x ∷ xs) ys = span_there rows (beginning_after b x) xs ys
@@ -58,27 +58,27 @@ abbrev pub told_on : (ℕ → Bool) → List Telling → ℕ → Bool
 told_on on [] = on
 told_on on (t ∷ ts) = told_on (has t.on) ts
 
-at_told : (rows : List (List Item)) (b : Beginning) (xs : List Occurrence) → (begins_after b xs).at ≡ at_after b.at (map (telling_of rows) xs)
+at_told : (rows : List (List Item)) (b : SpanStartView) (xs : List OccurrenceView) → (begins_after b xs).at ≡ at_after b.at (map (telling_of rows) xs)
 at_told rows b [] = refl
 at_told rows b (x ∷ xs) = at_told rows (beginning_after b x) xs
 
-on_told : (rows : List (List Item)) (b : Beginning) (xs : List Occurrence) → (begins_after b xs).on ≡ told_on b.on (map (telling_of rows) xs)
+on_told : (rows : List (List Item)) (b : SpanStartView) (xs : List OccurrenceView) → (begins_after b xs).on ≡ told_on b.on (map (telling_of rows) xs)
 on_told rows b [] = refl
 on_told rows b (x ∷ xs) = on_told rows (beginning_after b x) xs
 
-first_holds : (P : EventId → Type 0) (b : Beginning) (xs : List Occurrence) → IfSome b.first P → ((k : ℕ) (o : Occurrence) → slice_get xs k ≡ Some o → P o.name) → IfSome (begins_after b xs).first P
+first_holds : (P : EventId → Type 0) (b : SpanStartView) (xs : List OccurrenceView) → IfSome b.first P → ((k : ℕ) (o : OccurrenceView) → slice_get xs k ≡ Some o → P o.name) → IfSome (begins_after b xs).first P
 first_holds P b [] first all = first
 first_holds P b (x ∷ xs) first all = first_holds P (beginning_after b x) xs (all 0 x refl) (λ k o is. all (suc k) o is)
 
 -- events that tell first the ones and then the others
-record Split (rows : List (List Item)) (os : List Occurrence) (ts us : List Telling) : Type 0 where
-  xs : List Occurrence
-  ys : List Occurrence
+record Split (rows : List (List Item)) (os : List OccurrenceView) (ts us : List Telling) : Type 0 where
+  xs : List OccurrenceView
+  ys : List OccurrenceView
   joined : os ≡ xs ++ ys
   left : map (telling_of rows) xs ≡ ts
   right : map (telling_of rows) ys ≡ us
 
-split_by : (rows : List (List Item)) (os : List Occurrence) (ts us : List Telling) → map (telling_of rows) os ≡ ts ++ us → Split rows os ts us
+split_by : (rows : List (List Item)) (os : List OccurrenceView) (ts us : List Telling) → map (telling_of rows) os ≡ ts ++ us → Split rows os ts us
 split_by rows os [] us is = record { xs = []; ys = os; joined = refl; left = refl; right = is }
 split_by rows [] (t ∷ ts) us is = absurd cc
 split_by rows (o ∷ os) (t ∷ ts) us is =
@@ -88,17 +88,17 @@ split_by rows (o ∷ os) (t ∷ ts) us is =
     record {
       xs = o ∷ r.xs;
       ys = r.ys;
-      joined = ap (λ (rest : List Occurrence). o ∷ rest) r.joined;
+      joined = ap (λ (rest : List OccurrenceView). o ∷ rest) r.joined;
       left = ap₂ (λ (s : Telling) (ss : List Telling). s ∷ ss) here r.left;
       right = r.right;
     }
 
-left_there : (xs ys : List Occurrence) (k : ℕ) (o : Occurrence) → slice_get xs k ≡ Some o → (slice_get (xs ++ ys) k ≡ Some o) × (k < length xs)
+left_there : (xs ys : List OccurrenceView) (k : ℕ) (o : OccurrenceView) → slice_get xs k ≡ Some o → (slice_get (xs ++ ys) k ≡ Some o) × (k < length xs)
 left_there [] ys k o is = absurd cc
 left_there (x ∷ xs) ys zero o is = (is, omega arith)
 left_there (x ∷ xs) ys (suc k) o is = let r = left_there xs ys k o is in (r.0, omega (arith, r.1))
 
-right_there : (xs ys : List Occurrence) (y : Occurrence) → slice_get (xs ++ y ∷ ys) (length xs) ≡ Some y
+right_there : (xs ys : List OccurrenceView) (y : OccurrenceView) → slice_get (xs ++ y ∷ ys) (length xs) ≡ Some y
 right_there [] ys y = refl
 right_there (x ∷ xs) ys y = right_there xs ys y
 
@@ -236,7 +236,7 @@ module _ (job : JobView) (doings : Doings) (qs rs : List ℕ) (quiet : IsQuietRu
   is_next c false [] = tt
   is_next c false (grant ∷ more) = refl
 
-  next_items : (c : ℕ) (runs : Bool) (b : Beginning) (ys : List Occurrence) (ts : List Telling) → map (telling_of rows) ys ≡ ts → IsNext c runs ts → ItemsAre doings rows stage c runs (span_next rows b ys)
+  next_items : (c : ℕ) (runs : Bool) (b : SpanStartView) (ys : List OccurrenceView) (ts : List Telling) → map (telling_of rows) ys ≡ ts → IsNext c runs ts → ItemsAre doings rows stage c runs (span_next rows b ys)
   next_items c true b [] ts is next = absurd (subst (IsNext c true) (sym is) next)
   next_items c true b (y ∷ ys) ts is next =
       let here : telling_of rows y ≡ act_telling doings c (stage.grants c) = subst (IsNext c true) (sym is) next in
@@ -269,10 +269,10 @@ module _ (job : JobView) (doings : Doings) (qs rs : List ℕ) (quiet : IsQuietRu
       let split = split_by rows events (made_tellings c) to_come (spoken_tellings c known) in
       let count : length split.xs ≡ made_counts doings.script start qs rs quiet run c = sym (length-map split.xs (telling_of rows)) ∙ ap length split.left ∙ sym (counts_told c) in
       let span = span_next rows (begins_after (first_beginning job c) split.xs) split.ys in
-      let named : (k : ℕ) (o : Occurrence) → slice_get events k ≡ Some o → Named o.name = λ k o is. kept_holds (λ p. Named p.name) (λ p. p.channel == c) (occurrences_from (first_board start) 0 speaking) k o (occurrences_named (first_board start) speaking) is in
+      let named : (k : ℕ) (o : OccurrenceView) → slice_get events k ≡ Some o → Named o.name = λ k o is. kept_holds (λ p. Named p.name) (λ p. p.channel == c) (occurrences_from (first_board start) 0 speaking) k o (occurrences_named (first_board start) speaking) is in
       record {
         span = span;
-        there = ap₂ (λ (os : List Occurrence) (n : ℕ). slice_get (spans_from rows (first_beginning job c) os) n) split.joined (sym count) ∙ span_there rows (first_beginning job c) split.xs split.ys;
+        there = ap₂ (λ (os : List OccurrenceView) (n : ℕ). slice_get (spans_from rows (first_beginning job c) os) n) split.joined (sym count) ∙ span_there rows (first_beginning job c) split.xs split.ys;
         at = by_next (begins_after (first_beginning job c) split.xs) (λ b. b.at) split.ys ∙ at_told rows (first_beginning job c) split.xs ∙ ap (at_after (start_position job)) split.left;
         on = by_next (begins_after (first_beginning job c) split.xs) (λ b. b.on) split.ys ∙ on_told rows (first_beginning job c) split.xs ∙ ap (told_on (is_on_at_first job)) split.left;
         items = next_items c runs (begins_after (first_beginning job c) split.xs) split.ys to_come split.right (is_next c runs (rest_told c).more);
@@ -280,20 +280,20 @@ module _ (job : JobView) (doings : Doings) (qs rs : List ℕ) (quiet : IsQuietRu
             (first_holds (λ e. Named e × (past e ≡ true)) (first_beginning job c) split.xs tt
             (λ k o is.
             let here = left_there split.xs split.ys k o is in
-            let in_events : slice_get events k ≡ Some o = ap (λ (os : List Occurrence). slice_get os k) split.joined ∙ here.0 in
+            let in_events : slice_get events k ≡ Some o = ap (λ (os : List OccurrenceView). slice_get os k) split.joined ∙ here.0 in
             (named k o in_events, first_are_past doings.script start qs rs quiet run c k o in_events (omega (arith, here.1, count)))));
         not_over = last_holds (begins_after (first_beginning job c) split.xs) split.xs split.ys split.joined count;
       }
     where
-      by_next : {A : Type 0} (b : Beginning) (f : Beginning → A) (ys : List Occurrence) → f (span_next rows b ys).begins ≡ f b
+      by_next : {A : Type 0} (b : SpanStartView) (f : SpanStartView → A) (ys : List OccurrenceView) → f (span_next rows b ys).begins ≡ f b
       by_next b f [] = refl
       by_next b f (y ∷ ys) = refl
 
-      last_holds : (b : Beginning) (xs ys : List Occurrence) → filter (λ o. o.channel == c) (occurrences_from (first_board start) 0 speaking) ≡ xs ++ ys → length xs ≡ made_counts doings.script start qs rs quiet run c
+      last_holds : (b : SpanStartView) (xs ys : List OccurrenceView) → filter (λ o. o.channel == c) (occurrences_from (first_board start) 0 speaking) ≡ xs ++ ys → length xs ≡ made_counts doings.script start qs rs quiet run c
           → IfSome (span_next rows b ys).last (λ e. Named e × (past e ≡ false))
       last_holds b xs [] joined count = tt
       last_holds b xs (y ∷ ys) joined count =
-          let in_events = ap (λ (os : List Occurrence). slice_get os (length xs)) joined ∙ right_there xs ys y in (
+          let in_events = ap (λ (os : List OccurrenceView). slice_get os (length xs)) joined ∙ right_there xs ys y in (
             kept_holds (λ p. Named p.name) (λ p. p.channel == c) (occurrences_from (first_board start) 0 speaking) (length xs) y (occurrences_named (first_board start) speaking) in_events,
             others_are_not doings.script start qs rs quiet run c (length xs) y in_events (omega (arith, count)) known,
           )

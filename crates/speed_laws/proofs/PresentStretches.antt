@@ -22,11 +22,11 @@ use Rattle.sync_types.specs.Runs.{first_stage, stage_after}
 use Rattle.sync_types.specs.declared.runs.EventId.{EventId}
 use Rattle.zone_stretches.proofs.AscentLaws.{EndsItself, spans_end_with_tenures}
 use Rattle.zone_stretches.proofs.NameLaws.{occurrences_named}
-use Rattle.zone_stretches.specs.Occurrences.{Occurrence, occurrences_of}
+use Rattle.zone_stretches.specs.Occurrences.{OccurrenceView, occurrences_of}
 use Rattle.zone_stretches.specs.SoundStretches.{IsZoneOf}
 use Rattle.zone_stretches.specs.Spans.{Span, spans_of}
 use Rattle.zone_stretches.specs.Stretches.{StretchView, free_stretch, spans_between, stretch_of_span, stretches_held_by, stretches_in_tenure, stretches_of_zone}
-use Rattle.zone_stretches.specs.Tenures.{Tenure, first_tenure, tenures_of}
+use Rattle.zone_stretches.specs.Tenures.{TenureView, first_tenure, tenures_of}
 
 -- ---- a span of a tenure
 
@@ -57,7 +57,7 @@ in_between spans from n upto span is low high =
     by_end (Some u) high dropped = some_at (take (suc u - from) (drop from spans)) (n - from) span (at_taken (drop from spans) (suc u - from) (n - from) span (omega (arith, low, high)) dropped)
 
 -- one of these, of all of which more is known
-some_where : (P Q R : Tenure → Type 0) → ((t : Tenure) → P t → Q t → R t) → (ts : List Tenure) → SomeOf P ts → All Q ts → SomeOf R ts
+some_where : (P Q R : TenureView → Type 0) → ((t : TenureView) → P t → Q t → R t) → (ts : List TenureView) → SomeOf P ts → All Q ts → SomeOf R ts
 some_where P Q R each [] some all = absurd some
 some_where P Q R each (t ∷ ts) (inl here) all = inl (each t here (All-head Q t ts all))
 some_where P Q R each (t ∷ ts) (inr there) all = inr (some_where P Q R each ts there (All-tail Q t ts all))
@@ -66,7 +66,7 @@ some_where P Q R each (t ∷ ts) (inr there) all = inr (some_where P Q R each ts
 
 module _ (job : JobView) (doings : Doings) (qs rs : List ℕ) (quiet : IsQuietRun doings.script (start_of job) qs) (run : IsRunOf doings.script (start_of job) rs) (zone : ZoneLine) (there : IsZoneOf (start_of job) zone)
     (known : (c : ℕ) → (stage_after doings.script (first_stage (start_of job)) rs).board.holder zone.zone ≡ Some c → among channel_numbers c ≡ true) where
-  abbrev events : List Occurrence
+  abbrev events : List OccurrenceView
   events = occurrences_of (first_board (start_of job)) (moves_by doings.script (start_of job) qs)
 
   abbrev counts : ℕ → ℕ
@@ -86,7 +86,7 @@ module _ (job : JobView) (doings : Doings) (qs rs : List ℕ) (quiet : IsQuietRu
   IsNow stretch =
       ((c : ℕ) × ((stage_after doings.script (first_stage (start_of job)) rs).board.holder zone.zone ≡ Some c) × (span : PresentSpan job doings qs rs quiet run c) × (stretch ≡ stretch_of_span job zone c span.span))
       ⊎ (((stage_after doings.script (first_stage (start_of job)) rs).board.holder zone.zone ≡ None)
-      × (t : Tenure) × IsPresent (occurrences_of (first_board (start_of job)) (moves_by doings.script (start_of job) qs)) (first_tenure job zone) (made_counts doings.script (start_of job) qs rs quiet run) None t
+      × (t : TenureView) × IsPresent (occurrences_of (first_board (start_of job)) (moves_by doings.script (start_of job) qs)) (first_tenure job zone) (made_counts doings.script (start_of job) qs rs quiet run) None t
       × (stretch ≡ free_stretch job zone t)
       × BeginsWithLast (occurrences_of (first_board (start_of job)) (moves_by doings.script (start_of job) qs)) (occurrences_of (first_board (start_of job)) (moves_by doings.script (start_of job) rs)) zone (first_tenure job zone).begins t)
 
@@ -96,13 +96,13 @@ module _ (job : JobView) (doings : Doings) (qs rs : List ℕ) (quiet : IsQuietRu
   abbrev spans : ℕ → List Span
   spans = spans_of job (items_by doings (first_stage (start_of job)) qs) events
 
-  abbrev Present : Tenure → Type 0
+  abbrev Present : TenureView → Type 0
   Present = IsPresent events (first_tenure job zone) counts holder
 
-  abbrev BeginsLast : Tenure → Type 0
+  abbrev BeginsLast : TenureView → Type 0
   BeginsLast = BeginsWithLast events (occurrences_of (first_board (start_of job)) (moves_by doings.script (start_of job) rs)) zone (first_tenure job zone).begins
 
-  held_now : (c : ℕ) → holder ≡ Some c → (t : Tenure) → Present t → EndsItself spans t → SomeOf Wanted (stretches_in_tenure job zone spans t)
+  held_now : (c : ℕ) → holder ≡ Some c → (t : TenureView) → Present t → EndsItself spans t → SomeOf Wanted (stretches_in_tenure job zone spans t)
   held_now c is t present ends =
       let now = present_span job doings qs rs quiet run c (known c is) in
       let held = present.held c is in
@@ -114,10 +114,10 @@ module _ (job : JobView) (doings : Doings) (qs rs : List ℕ) (quiet : IsQuietRu
       (λ s same. subst (λ (s : Span). Wanted (stretch_of_span job zone c s)) (sym same) (record { begun = now.begun; not_over = now.not_over }, inl (c, is, now, refl)))
       (spans_between (spans c) t.from t.upto) between)))
 
-  named : (c k : ℕ) (o : Occurrence) → slice_get (filter (λ p. p.channel == c) events) k ≡ Some o → Named o.name
+  named : (c k : ℕ) (o : OccurrenceView) → slice_get (filter (λ p. p.channel == c) events) k ≡ Some o → Named o.name
   named c k o is = kept_holds (λ p. Named p.name) (λ p. p.channel == c) events k o (occurrences_named (first_board (start_of job)) (moves_by doings.script (start_of job) qs)) is
 
-  free_now : holder ≡ None → (t : Tenure) → Present t → BeginsLast t → SomeOf Wanted (stretches_in_tenure job zone spans t)
+  free_now : holder ≡ None → (t : TenureView) → Present t → BeginsLast t → SomeOf Wanted (stretches_in_tenure job zone spans t)
   free_now is t present begins =
       subst (λ (o : Option ℕ). SomeOf Wanted (stretches_held_by job zone spans t o)) (sym (present.owner ∙ is))
       (inl (record { begun = by_begin present.begins; not_over = by_end (present.ends is) }, inr (is, t, subst (λ (o : Option ℕ). IsPresent events (first_tenure job zone) counts o t) is present, refl, begins)))
@@ -146,7 +146,7 @@ module _ (job : JobView) (doings : Doings) (qs rs : List ℕ) (quiet : IsQuietRu
       (present_tenure job doings.script qs rs quiet run zone there)
       (spans_end_with_tenures job (start_of job) (items_by doings (first_stage (start_of job)) qs) (moves_by doings.script (start_of job) qs) zone (zones_first (start_of job) quiet.sound) there))
     where
-      by_holder : (o : Option ℕ) → holder ≡ o → (t : Tenure) → Present t × BeginsLast t → EndsItself spans t → SomeOf Wanted (stretches_in_tenure job zone spans t)
+      by_holder : (o : Option ℕ) → holder ≡ o → (t : TenureView) → Present t × BeginsLast t → EndsItself spans t → SomeOf Wanted (stretches_in_tenure job zone spans t)
       by_holder None is t found ends = free_now is t found.0 found.1
       by_holder (Some c) is t found ends = held_now c is t found.0 ends
 

@@ -17,10 +17,10 @@ use Rattle.order_clocks.specs.Chains.{IsIn}
 use Rattle.order_clocks.specs.Happenings.{happening_of}
 use Rattle.zone_stretches.proofs.HandLaws.{HandsAre, IsFor, carry_from, carry_to, owner_next, owners-append, owners_next, run_hands, step_hands}
 use Rattle.zone_stretches.proofs.HandLaws.{carry_none}
-use Rattle.zone_stretches.specs.Occurrences.{Occurrence, act_of, going_on_of, occurrences_in, occurrences_from, occurrences_of}
+use Rattle.zone_stretches.specs.Occurrences.{OccurrenceView, act_of, going_on_of, occurrences_in, occurrences_from, occurrences_of}
 use Rattle.zone_stretches.specs.SoundStretches.{IsZoneOf}
-use Rattle.zone_stretches.specs.Spans.{Beginning}
-use Rattle.zone_stretches.specs.Tenures.{Tenure, carry, changes_hands, first_tenure, tenures_from, tenures_of}
+use Rattle.zone_stretches.specs.Spans.{SpanStartView}
+use Rattle.zone_stretches.specs.Tenures.{TenureView, carry, changes_hands, first_tenure, tenures_from, tenures_of}
 use Rattle.schedule_laws.proofs.EventLaws.{events_told}
 use Rattle.schedule_laws.proofs.RunLaws.{speaks_of_states}
 use Rattle.schedule_laws.specs.Schedules.{HasChannelNumbers, IsQuietRun, IsRunOf, moves_by}
@@ -100,11 +100,11 @@ events_joined (m ∷ ms) ns b i =
     let next = after_step b m.channel m.step in
     let same : suc i + length ms ≡ i + suc (length ms) = omega arith in
     let here = occurrences_in i m.step (happening_of b m.channel m.step) in
-    ap (λ (os : List Occurrence). here ++ os) (events_joined ms ns next (suc i) ∙ ap (λ (n : ℕ). occurrences_from next (suc i) ms ++ occurrences_from (after_moves next ms) n ns) same)
+    ap (λ (os : List OccurrenceView). here ++ os) (events_joined ms ns next (suc i) ∙ ap (λ (n : ℕ). occurrences_from next (suc i) ms ++ occurrences_from (after_moves next ms) n ns) same)
     ∙ sym (append_assoc here (occurrences_from next (suc i) ms) (occurrences_from (after_moves next ms) (i + suc (length ms)) ns))
 
 -- a zone that no axis carries has one tenure
-no_change : (zone : ZoneLine) → carry zone (λ axis. true) ≡ false → (o : Occurrence) → changes_hands zone o ≡ false
+no_change : (zone : ZoneLine) → carry zone (λ axis. true) ≡ false → (o : OccurrenceView) → changes_hands zone o ≡ false
 no_change zone bare o = rw (off o.frees, off o.takes) refl
   where
     off : (test : ℕ → Bool) → carry zone test ≡ false
@@ -113,16 +113,16 @@ no_change zone bare o = rw (off o.frees, off o.takes) refl
       | inl on ↦ let w = carry_from zone test on in no_truth (carry zone (λ axis. true)) (carry_to zone (λ axis. true) w.0 w.1 refl) bare
     ]
 
-pub one_tenure : (zone : ZoneLine) → carry zone (λ axis. true) ≡ false → (os : List Occurrence) (counts : ℕ → ℕ) (t : Tenure) → tenures_from zone counts t os ≡ t ∷ []
+pub one_tenure : (zone : ZoneLine) → carry zone (λ axis. true) ≡ false → (os : List OccurrenceView) (counts : ℕ → ℕ) (t : TenureView) → tenures_from zone counts t os ≡ t ∷ []
 one_tenure zone bare [] counts t = refl
 one_tenure zone bare (o ∷ os) counts t = rw (no_change zone bare o) (one_tenure zone bare os _ t)
 
-one_owner : (zone : ZoneLine) → carry zone (λ axis. true) ≡ false → (os : List Occurrence) (owner : Option ℕ) → owners_next zone owner os ≡ owner
+one_owner : (zone : ZoneLine) → carry zone (λ axis. true) ≡ false → (os : List OccurrenceView) (owner : Option ℕ) → owners_next zone owner os ≡ owner
 one_owner zone bare [] owner = refl
 one_owner zone bare (o ∷ os) owner = one_owner zone bare os (owner_next zone owner o) ∙ rw (no_change zone bare o) refl
 
 -- and no last event of its hands
-no_last : (zone : ZoneLine) → carry zone (λ axis. true) ≡ false → (os : List Occurrence) (last : Option Occurrence) → last_hand zone last os ≡ last
+no_last : (zone : ZoneLine) → carry zone (λ axis. true) ≡ false → (os : List OccurrenceView) (last : Option OccurrenceView) → last_hand zone last os ≡ last
 no_last zone bare [] last = refl
 no_last zone bare (o ∷ os) last =
     ap (λ (t : Bool). last_hand zone (cond t (Some o) last) os) (no_change zone bare o) ∙ no_last zone bare os last
@@ -130,9 +130,9 @@ no_last zone bare (o ∷ os) last =
 -- ---- the present tenure
 
 -- an event that the run has made, by its place, and one that it has not made
-pub record BegunBy (all : List Occurrence) (counts : ℕ → ℕ) (t : Tenure) : Type 0 where
+pub record BegunBy (all : List OccurrenceView) (counts : ℕ → ℕ) (t : TenureView) : Type 0 where
   pub place : Place
-  pub event : Occurrence
+  pub event : OccurrenceView
   pub at : At all place event
   pub counted : 1 ≤ place.place
   pub made : place.place ≤ counts place.channel
@@ -140,15 +140,15 @@ pub record BegunBy (all : List Occurrence) (counts : ℕ → ℕ) (t : Tenure) :
   pub on : t.begins.on ≡ has event.on
   pub first : t.begins.first ≡ Some event.name
 
-pub record EndedBy (all : List Occurrence) (counts : ℕ → ℕ) (t : Tenure) : Type 0 where
+pub record EndedBy (all : List OccurrenceView) (counts : ℕ → ℕ) (t : TenureView) : Type 0 where
   pub place : Place
-  pub event : Occurrence
+  pub event : OccurrenceView
   pub at : At all place event
   pub not_made : counts place.channel < place.place
   pub known : among channel_numbers place.channel ≡ true
   pub last : t.last ≡ Some event.name
 
-pub record IsPresent (all : List Occurrence) (first : Tenure) (counts : ℕ → ℕ) (holder : Option ℕ) (t : Tenure) : Type 0 where
+pub record IsPresent (all : List OccurrenceView) (first : TenureView) (counts : ℕ → ℕ) (holder : Option ℕ) (t : TenureView) : Type 0 where
   pub owner : t.owner ≡ holder
   pub held : (c : ℕ) → holder ≡ Some c → (t.from ≤ counts c) × IfSome t.upto (λ u. counts c ≤ u)
   pub begins : (t.begins ≡ first.begins) ⊎ BegunBy all counts t
@@ -156,13 +156,13 @@ pub record IsPresent (all : List Occurrence) (first : Tenure) (counts : ℕ → 
 
 -- A tenure in the one run begins with the event at the place of the last one of the other run in which the zone changed hands, or as
 -- the job does where there is none.
-pub record BeginsWithLast (all made : List Occurrence) (zone : ZoneLine) (first : Beginning) (t : Tenure) : Type 0 where
+pub record BeginsWithLast (all made : List OccurrenceView) (zone : ZoneLine) (first : SpanStartView) (t : TenureView) : Type 0 where
   pub place : Option Place
   pub begins : BeginsBy all first place t.begins
   pub last : IsPlaceOf made place (last_hand zone None made)
 
 -- what a tenure of the zone has where one of the axis lasts or ends later
-present_by : (all : List Occurrence) (first : Tenure) (counts : ℕ → ℕ) (holder : Option ℕ) (u v : machine.Tenure) (t : Tenure) → u.owner ≡ holder → IfSome u.owner (λ c. u.from ≤ counts c)
+present_by : (all : List OccurrenceView) (first : TenureView) (counts : ℕ → ℕ) (holder : Option ℕ) (u v : machine.TenureView) (t : TenureView) → u.owner ≡ holder → IfSome u.owner (λ c. u.from ≤ counts c)
     → IfSome u.first (λ e. (1 ≤ e.place) × (e.place ≤ counts e.channel)) → v.owner ≡ u.owner → v.from ≡ u.from → v.first ≡ u.first → IfSome v.last (λ e. counts e.channel < e.place)
     → Match all first.begins v t → IsPresent all first counts holder t
 present_by all first counts holder u v t owned from made owner' from' first' later m = record {
@@ -222,10 +222,10 @@ module _ (job : JobView) (script : Script) (qs rs : List ℕ) (quiet : IsQuietRu
   owner_is : owners_next zone (board.holder zone.zone) (occurrences_from board 0 made) ≡ holder
   owner_is = run_owner made board zone 0 zones for ∙ ap (λ (b : Board). b.holder zone.zone) (run_is_replay script (first_stage (start_of job)) rs run).board
 
-  abbrev Present : Tenure → Type 0
+  abbrev Present : TenureView → Type 0
   Present = IsPresent (occurrences_from board 0 speaking) (first_tenure job zone) counts holder
 
-  abbrev Found : Tenure → Type 0
+  abbrev Found : TenureView → Type 0
   Found t = Present t × BeginsWithLast (occurrences_from board 0 speaking) (occurrences_from board 0 made) zone (first_tenure job zone).begins t
 
   bare_present : carry zone (λ axis. true) ≡ false → SomeOf Found (tenures_from zone (λ c. 0) (first_tenure job zone) (occurrences_from board 0 speaking))
@@ -241,7 +241,7 @@ module _ (job : JobView) (script : Script) (qs rs : List ℕ) (quiet : IsQuietRu
         record {
           place = None;
           begins = refl;
-          last = subst (λ (l : Option Occurrence). IsPlaceOf (occurrences_from board 0 made) None l) (sym (no_last zone bare (occurrences_from board 0 made) None)) tt;
+          last = subst (λ (l : Option OccurrenceView). IsPlaceOf (occurrences_from board 0 made) None l) (sym (no_last zone bare (occurrences_from board 0 made) None)) tt;
         },
       ))
 
@@ -253,7 +253,7 @@ module _ (job : JobView) (script : Script) (qs rs : List ℕ) (quiet : IsQuietRu
       let whole = moves_by script (start_of job) (rs ++ spoken.alike.rest) in
       let joined : whole ≡ made ++ rest = moves_joined script (first_stage (start_of job)) rs spoken.alike.rest in
       let whole_runs : AreOfRunning board whole = (run_is_replay script (first_stage (start_of job)) (rs ++ spoken.alike.rest) spoken.alike.maximal.run).running in
-      let first : machine.Tenure = record { owner = owner_of (board.axis x); first = None; last = None; from = 0; upto = 0 } in
+      let first : machine.TenureView = record { owner = owner_of (board.axis x); first = None; last = None; from = 0; upto = 0 } in
       let owned : owner_of (board.axis x) ≡ board.holder zone.zone = zones.owner zone.zone x (for x ∙ carries) in
       let begin : IsNewest zone x carries (λ d. 0) (board.holder zone.zone) (first ∷ []) =
       record { tenure = first; older = []; are = refl; owned = owned; lasting = refl; from = from_zero (owner_of (board.axis x)); first = tt } in
@@ -264,13 +264,13 @@ module _ (job : JobView) (script : Script) (qs rs : List ℕ) (quiet : IsQuietRu
       let total : (d : ℕ) → counts_after (λ c. 0) (occurrences_from board 0 made) d ≡ counts d = λ d. counts_read board made d zones made_runs ∙ sym (events_told board made d (length made) (omega arith)).count in
       let last = lasts zone x carries later (counts_after (λ c. 0) (occurrences_from board 0 made)) counts now.tenure now.older now.lasting (λ d. let same = total d in omega (arith, same)) in
       let in_whole : hands x (counts_after (λ c. 0) (occurrences_from board 0 made)) (now.tenure ∷ now.older) later ≡ tenures_at board whole (length whole) x =
-      ap (λ (ts : List machine.Tenure). hands x (counts_after (λ c. 0) (occurrences_from board 0 made)) ts later) (sym now.are)
+      ap (λ (ts : List machine.TenureView). hands x (counts_after (λ c. 0) (occurrences_from board 0 made)) ts later) (sym now.are)
       ∙ sym (hands_append x (λ c. 0) (first ∷ []) (occurrences_from board 0 made) later)
       ∙ ap (hands x (λ c. 0) (first ∷ [])) (sym (events_joined made rest board 0) ∙ ap (occurrences_from board 0) (sym joined))
       ∙ tenures_read board whole x zones whole_runs in
       let same_end : tenures_at board whole (length whole) x ≡ tenures_at board speaking (length speaking) x = ap (λ (t : Machine). (t.axis x).tenures) (sym spoken.state) in
       let in_speaking : IsIn last.tenure (hands x (λ c. 0) (first ∷ []) (occurrences_from board 0 speaking)) =
-      subst (λ (ts : List machine.Tenure). IsIn last.tenure ts) (in_whole ∙ same_end ∙ sym (tenures_read board speaking x zones speaking_runs)) last.within in
+      subst (λ (ts : List machine.TenureView). IsIn last.tenure ts) (in_whole ∙ same_end ∙ sym (tenures_read board speaking x zones speaking_runs)) last.within in
       let read = each_read zone x carries (occurrences_from board 0 speaking) (first_tenure job zone).begins (occurrences_from board 0 speaking) (λ c. 0) (first_tenure job zone) first [] refl
       (record { owner = sym there.holder ∙ sym owned; from = refl; begins = refl; ends = (refl, refl) })
       (subst (λ (w : Option ℕ). HandsAre zone w (occurrences_from board 0 speaking)) there.holder (run_hands speaking board zone 0 zones for))
@@ -291,7 +291,7 @@ module _ (job : JobView) (script : Script) (qs rs : List ℕ) (quiet : IsQuietRu
       first_known : KnownOwner (board.holder zone.zone)
       first_known c e = quiet.numbers c (quiet.sound.holders zone.zone c e)
 
-      places_from : (os : List Occurrence) (c k : ℕ) → slice_get (filter (λ p. p.channel == c) os) (0 + k) ≡ slice_get (filter (λ p. p.channel == c) os) k
+      places_from : (os : List OccurrenceView) (c k : ℕ) → slice_get (filter (λ p. p.channel == c) os) (0 + k) ≡ slice_get (filter (λ p. p.channel == c) os) k
       places_from os c k = let same : 0 + k ≡ k = omega arith in ap (λ (n : ℕ). slice_get (filter (λ p. p.channel == c) os) n) same
 
       from_zero : (w : Option ℕ) → IfSome w (λ c. 0 ≤ 0)
@@ -307,8 +307,8 @@ module _ (job : JobView) (script : Script) (qs rs : List ℕ) (quiet : IsQuietRu
       first_recounted None total up = tt
       first_recounted (Some e) total up = let same = total e.channel in (up.0, omega (arith, up.1, same))
 
-      by_read : (v : machine.Tenure) → (IsIn v []) ⊎ SomeOf (Match (occurrences_from board 0 speaking) (first_tenure job zone).begins v) (tenures_from zone (λ c. 0) (first_tenure job zone) (occurrences_from board 0 speaking))
-          → ((t : Tenure) → Match (occurrences_from board 0 speaking) (first_tenure job zone).begins v t → Found t) → SomeOf Found (tenures_from zone (λ c. 0) (first_tenure job zone) (occurrences_from board 0 speaking))
+      by_read : (v : machine.TenureView) → (IsIn v []) ⊎ SomeOf (Match (occurrences_from board 0 speaking) (first_tenure job zone).begins v) (tenures_from zone (λ c. 0) (first_tenure job zone) (occurrences_from board 0 speaking))
+          → ((t : TenureView) → Match (occurrences_from board 0 speaking) (first_tenure job zone).begins v t → Found t) → SomeOf Found (tenures_from zone (λ c. 0) (first_tenure job zone) (occurrences_from board 0 speaking))
       by_read v (inl none) make = absurd none
       by_read v (inr some) make = SomeOf-weaker (Match (occurrences_from board 0 speaking) (first_tenure job zone).begins v) Found make (tenures_from zone (λ c. 0) (first_tenure job zone) (occurrences_from board 0 speaking)) some
 
@@ -324,7 +324,7 @@ module _ (job : JobView) (script : Script) (qs rs : List ℕ) (quiet : IsQuietRu
 
 -- ---- holders have numbers
 
-owner_known : (zone : ZoneLine) (x : ℕ) (carries : has_axis zone x ≡ true) (os : List Occurrence) (owner : Option ℕ) → All (TakesAll zone x carries) os → KnownOwner owner → KnownOwner (owners_next zone owner os)
+owner_known : (zone : ZoneLine) (x : ℕ) (carries : has_axis zone x ≡ true) (os : List OccurrenceView) (owner : Option ℕ) → All (TakesAll zone x carries) os → KnownOwner owner → KnownOwner (owners_next zone owner os)
 owner_known zone x carries [] owner takes known = known
 owner_known zone x carries (o ∷ os) owner takes known =
     owner_known zone x carries os (owner_next zone owner o) (All-tail (TakesAll zone x carries) o os takes) (next (changes_hands zone o) (carry zone o.takes) refl)

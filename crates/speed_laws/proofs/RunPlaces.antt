@@ -28,7 +28,7 @@ use Rattle.sync_types.specs.Turns.{after_moves, after_step, goings_in_step}
 use Rattle.sync_types.specs.declared.Grant.{Grant}
 use Rattle.sync_types.specs.declared.Item.{Item}
 use Rattle.zone_stretches.proofs.EventLaws.{own_name}
-use Rattle.zone_stretches.specs.Occurrences.{Occurrence, act_of, going_on_of, occurrences_in, occurrences_from, occurrences_of}
+use Rattle.zone_stretches.specs.Occurrences.{OccurrenceView, act_of, going_on_of, occurrences_in, occurrences_from, occurrences_of}
 
 -- ---- one step more
 
@@ -39,7 +39,7 @@ step_keeps : (doings : Doings) (stage : Stage) (p i c : ℕ) → Zones stage.boa
     × ((after_turn doings.script stage p).board.state c ≡ stage.board.state c) × ((after_turn doings.script stage p).grants c ≡ stage.grants c))
 step_keeps doings stage p i c zs running = by_case (cases_Bool (p == c)) (going_of (goings_in_step stage.board p (doings.script p (stage.grants p))) c) refl
   where
-    count : (xs : List Occurrence) → cond (p == c) (act_of i (doings.script p (stage.grants p)) (happening_of stage.board p (doings.script p (stage.grants p))) ∷ []) []
+    count : (xs : List OccurrenceView) → cond (p == c) (act_of i (doings.script p (stage.grants p)) (happening_of stage.board p (doings.script p (stage.grants p))) ∷ []) []
         ++ map (going_on_of i (goings_in_step stage.board p (doings.script p (stage.grants p)))) (as_goings (going_of (goings_in_step stage.board p (doings.script p (stage.grants p))) c)) ≡ xs
         → length (filter (λ o. o.channel == c) (occurrences_in i (doings.script p (stage.grants p)) (happening_of stage.board p (doings.script p (stage.grants p))))) ≡ length xs
     count xs is = ap length (step_events stage.board p (doings.script p (stage.grants p)) i c running zs ∙ is)
@@ -90,7 +90,7 @@ module _ (job : JobView) (doings : Doings) (sound : IsSound (start_of job)) wher
       let stage = stage_after doings.script first cs in
       let step = doings.script p (stage.grants p) in
       let ms = moves_by doings.script (start_of job) cs in
-      let here : ℕ → List Occurrence = λ n. occurrences_in n step (happening_of stage.board p step) in
+      let here : ℕ → List OccurrenceView = λ n. occurrences_in n step (happening_of stage.board p step) in
       let old = span_counts cs c run in
       let new = span_counts (cs ++ p ∷ []) c (run_more doings.script first cs p run on) in
       let end : after_moves (first_board (start_of job)) ms ≡ stage.board = (run_is_replay doings.script first cs run).board in
@@ -99,10 +99,10 @@ module _ (job : JobView) (doings : Doings) (sound : IsSound (start_of job)) wher
       ap (occurrences_from (first_board (start_of job)) 0) (moves_joined doings.script first cs (p ∷ []))
       ∙ events_joined ms (record { channel = p; step = step } ∷ []) (first_board (start_of job)) 0
       ∙ ap (λ b. occurrences_from (first_board (start_of job)) 0 ms ++ (occurrences_in (0 + length ms) step (happening_of b p step) ++ [])) end
-      ∙ ap (λ (os : List Occurrence). occurrences_from (first_board (start_of job)) 0 ms ++ os) (append-nil (here (0 + length ms)) ∙ ap here place) in
+      ∙ ap (λ (os : List OccurrenceView). occurrences_from (first_board (start_of job)) 0 ms ++ os) (append-nil (here (0 + length ms)) ∙ ap here place) in
       let count : length (filter (λ o. o.channel == c) (occurrences_from (first_board (start_of job)) 0 (moves_by doings.script (start_of job) (cs ++ p ∷ []))))
       ≡ length (filter (λ o. o.channel == c) (occurrences_from (first_board (start_of job)) 0 ms)) + length (filter (λ o. o.channel == c) (here (length ms))) =
-      ap (λ (os : List Occurrence). length (filter (λ o. o.channel == c) os)) parts
+      ap (λ (os : List OccurrenceView). length (filter (λ o. o.channel == c) os)) parts
       ∙ ap length (filter-append (λ o. o.channel == c) (occurrences_from (first_board (start_of job)) 0 ms) (here (length ms)))
       ∙ length-append (filter (λ o. o.channel == c) (occurrences_from (first_board (start_of job)) 0 ms)) (filter (λ o. o.channel == c) (here (length ms))) in
       omega (arith, old, new, count)

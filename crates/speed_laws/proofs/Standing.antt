@@ -33,7 +33,7 @@ use Rattle.sync_types.specs.Turns.{after_step, goings_in_step}
 use Rattle.sync_types.specs.declared.Grant.{Grant}
 use Rattle.sync_types.specs.declared.Item.{Item}
 use Rattle.sync_types.specs.declared.Step.{Step}
-use Rattle.zone_stretches.specs.Occurrences.{Occurrence, act_of, going_on_of, occurrences_in, occurrences_from}
+use Rattle.zone_stretches.specs.Occurrences.{OccurrenceView, act_of, going_on_of, occurrences_in, occurrences_from}
 
 at_append : (at : ℕ → ℤ) (ts us : List Telling) → at_after at (ts ++ us) ≡ at_after (at_after at ts) us
 at_append at [] us = refl
@@ -72,7 +72,7 @@ module _ (job : JobView) (doings : Doings) where
     abbrev added : ℕ → List Grant
     added c = cond (gets_a_grant stage.board p c) (as_list (grant_in (state_next c))) []
 
-    abbrev events : ℕ → List Occurrence
+    abbrev events : ℕ → List OccurrenceView
     events c = cond (p == c) (act_of i step (happening_of stage.board p step) ∷ []) [] ++ map (going_on_of i goings) (as_goings (going_of goings c))
 
     abbrev Stands : ℕ → Type 0
@@ -151,10 +151,10 @@ module _ (job : JobView) (doings : Doings) where
       let at = stands_at c (is_running (stage.board.state c)) (stage.grants c) in
       let here = filter (λ o. o.channel == c) (occurrences_in i step (happening_of stage.board p step)) in
       let there = filter (λ o. o.channel == c) (occurrences_from next.board (suc i) (moves_of doings.script next cs)) in
-      ap (λ (os : List Occurrence). at_after at (map (telling_of rows) os)) (filter-append (λ o. o.channel == c) (occurrences_in i step (happening_of stage.board p step)) (occurrences_from next.board (suc i) (moves_of doings.script next cs)))
+      ap (λ (os : List OccurrenceView). at_after at (map (telling_of rows) os)) (filter-append (λ o. o.channel == c) (occurrences_in i step (happening_of stage.board p step)) (occurrences_from next.board (suc i) (moves_of doings.script next cs)))
       ∙ ap (at_after at) (map-append (telling_of rows) here there)
       ∙ at_append at (map (telling_of rows) here) (map (telling_of rows) there)
-      ∙ ap (λ (os : List Occurrence). at_after (at_after at (map (telling_of rows) os)) (map (telling_of rows) there)) (step_events stage.board p step i c run.0 zs)
+      ∙ ap (λ (os : List OccurrenceView). at_after (at_after at (map (telling_of rows) os)) (map (telling_of rows) there)) (step_events stage.board p step i c run.0 zs)
       ∙ ap (λ (f : ℕ → ℤ). at_after f (map (telling_of rows) there)) (step_stands stage p i rows zs run.0 tell.0 c ∙ ap (stands_at c (is_running (next.board.state c))) (sym (grants_next stage p i rows zs run.0 tell.0 c)))
       ∙ all_stand cs next (suc i) rows c (zones_step stage.board p step zs) run.1 tell.1
 

@@ -26,7 +26,7 @@ use Rattle.sync_types.specs.declared.Grant.{Grant}
 use Rattle.sync_types.specs.declared.Step.{Step}
 use Rattle.zone_stretches.proofs.EventLaws.{Once, goings_once, starts_once}
 use Rattle.zone_stretches.proofs.NameLaws.{in_mapped}
-use Rattle.zone_stretches.specs.Occurrences.{Occurrence, act_of, going_on_of, occurrences_in}
+use Rattle.zone_stretches.specs.Occurrences.{OccurrenceView, act_of, going_on_of, occurrences_in}
 
 -- ---- states
 
@@ -287,7 +287,7 @@ going_events i c all (g ∷ gs) = by_test (g.channel == c) (going_events i c all
     by_test : (t : Bool) → filter (λ o. o.channel == c) (map (going_on_of i all) gs) ≡ map (going_on_of i all) (filter (λ h. h.channel == c) gs)
         → cond t (going_on_of i all g ∷ filter (λ o. o.channel == c) (map (going_on_of i all) gs)) (filter (λ o. o.channel == c) (map (going_on_of i all) gs))
         ≡ map (going_on_of i all) (cond t (g ∷ filter (λ h. h.channel == c) gs) (filter (λ h. h.channel == c) gs))
-    by_test true rest = ap (λ (os : List Occurrence). going_on_of i all g ∷ os) rest
+    by_test true rest = ap (λ (os : List OccurrenceView). going_on_of i all g ∷ os) rest
     by_test false rest = rest
 
 -- in the step of a channel: its act, and that it goes on
@@ -303,5 +303,5 @@ step_events b p step i c running zs =
     by_test : (t : Bool) → filter (λ o. o.channel == c) (map (going_on_of i goings) goings) ≡ map (going_on_of i goings) (as_goings (going_of goings c))
         → cond t (act_of i step (happening_of b p step) ∷ filter (λ o. o.channel == c) (map (going_on_of i goings) goings)) (filter (λ o. o.channel == c) (map (going_on_of i goings) goings))
         ≡ cond t (act_of i step (happening_of b p step) ∷ []) [] ++ map (going_on_of i goings) (as_goings (going_of goings c))
-    by_test true is = ap (λ (os : List Occurrence). act_of i step (happening_of b p step) ∷ os) is
+    by_test true is = ap (λ (os : List OccurrenceView). act_of i step (happening_of b p step) ∷ os) is
     by_test false is = is

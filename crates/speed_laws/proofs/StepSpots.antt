@@ -8,7 +8,7 @@ use Rattle.board_laws.specs.Zones.{Zones}
 use Rattle.channel_machine.specs.StartStates.{start_of}
 use Rattle.job_types.specs.Job.{JobView}
 use Rattle.order_clocks.specs.Happenings.{going_of, happening_of}
-use Rattle.zone_stretches.specs.Occurrences.{Occurrence, act_of, going_on_of, occurrences_in}
+use Rattle.zone_stretches.specs.Occurrences.{OccurrenceView, act_of, going_on_of, occurrences_in}
 use Rattle.schedule_laws.specs.Schedules.{moves_by}
 use Rattle.speed_laws.proofs.Histories.{found_in}
 use Rattle.speed_laws.proofs.JoinedRuns.{stage_joined}
@@ -85,20 +85,20 @@ module _ (job : JobView) (doings : Doings) (start_sound : IsSound (start_of job)
   abbrev place : ℕ
   place = length (moves_by doings.script (start_of job) state.run)
 
-  abbrev here : ℕ → List Occurrence
+  abbrev here : ℕ → List OccurrenceView
   here c = filter (λ o. o.channel == c) (occurrences_in place step (happening_of stage.board p step))
 
-  abbrev act : Occurrence
+  abbrev act : OccurrenceView
   act = act_of place step (happening_of stage.board p step)
 
-  abbrev went : Option Going → List Occurrence
+  abbrev went : Option Going → List OccurrenceView
   went o = map (going_on_of place goings) (as_goings o)
 
   added : (c : ℕ) → span_number job doings acted c ≡ span_number job doings state c + length (here c)
   unfolding span_number
   added c = spans_add job doings start_sound state.run p c well.run on
 
-  count : (c : ℕ) (xs : List Occurrence) → cond (p == c) (act ∷ []) [] ++ went (going_of goings c) ≡ xs → length (here c) ≡ length xs
+  count : (c : ℕ) (xs : List OccurrenceView) → cond (p == c) (act ∷ []) [] ++ went (going_of goings c) ≡ xs → length (here c) ≡ length xs
   count c xs is = ap length (step_events stage.board p step place c on zones_then ∙ is)
 
   grows : (c : ℕ) → HasEvent c → span_number job doings state c < span_number job doings acted c

@@ -23,7 +23,7 @@ use Rattle.sync_types.specs.Views.{RunView}
 use Rattle.sync_types.specs.declared.Item.{Item}
 use Rattle.sync_types.specs.declared.runs.EventId.{EventId}
 use Rattle.zone_stretches.specs.Pieces.{piece_boxes}
-use Rattle.zone_stretches.specs.Spans.{Beginning, is_on_at_first}
+use Rattle.zone_stretches.specs.Spans.{SpanStartView, is_on_at_first}
 use Rattle.zone_stretches.specs.Stretches.{StretchView, stretch_between}
 use Rattle.zone_stretches.specs.ZoneBoxes.{PlaceBox, boxes_of, shown_box}
 
@@ -35,7 +35,7 @@ standing_covers zone all line at true point is stand = inl (record { from = omeg
 standing_covers zone all line at false point is stand = absurd cc
 
 -- a point of space in the zone is in a piece of a box of a stretch that covers the zone's axes where they are
-pub in_stretch : (job : JobView) (run : RunView) (position : ℕ → Fraction) (zone : ZoneLine) → length zone.sides ≡ 3 → (channel : Option ℕ) (begins : Beginning) (last : Option EventId) (entry : ℕ) (items : List Item)
+pub in_stretch : (job : JobView) (run : RunView) (position : ℕ → Fraction) (zone : ZoneLine) → length zone.sides ≡ 3 → (channel : Option ℕ) (begins : SpanStartView) (last : Option EventId) (entry : ℕ) (items : List Item)
     → (places : ℕ → ℕ) (place : ℕ) (here : Point) → IfSome channel (λ c. places c ≡ place)
     → ((low high : ℕ → ℤ) → AxesWithin zone low high here → FractionsWithin zone low high position)
     → (point : SpacePoint) → IsInZone job.margin position zone point

@@ -34,7 +34,7 @@ use Rattle.sync_types.specs.declared.Grant.{Grant}
 use Rattle.sync_types.specs.declared.Item.{Item}
 use Rattle.sync_types.specs.declared.Step.{Step}
 use Rattle.zone_stretches.proofs.NameLaws.{in_mapped, listed}
-use Rattle.zone_stretches.specs.Occurrences.{Occurrence, act_of, going_on_of, occurrences_in, occurrences_from}
+use Rattle.zone_stretches.specs.Occurrences.{OccurrenceView, act_of, going_on_of, occurrences_in, occurrences_from}
 
 first_there : (xs : List ℕ) (x : ℕ) → first_of xs ≡ Some x → among xs x ≡ true
 first_there [] x is = absurd cc
@@ -261,8 +261,8 @@ module _ (doings : Doings) (z : ℕ) (low : 1 ≤ z) (high : z ≤ ZONE_LIMIT) w
       let there = filter (λ o. o.channel == c) (occurrences_from next.board (suc i) (moves_of doings.script next cs)) in
       let told = told_on on (map (telling_of rows) here) in
       let now : next.board.holder z ≡ Some c → told z ≡ next.board.is_on z = λ held_next.
-      ap (λ (os : List Occurrence). told_on on (map (telling_of rows) os) z) (step_events stage.board p step i c run.0 zs) ∙ step_on stage p i c rows zs run.0 on was held_next in
-      ap (λ (os : List Occurrence). told_on on (map (telling_of rows) os) z) (filter-append (λ o. o.channel == c) (occurrences_in i step (happening_of stage.board p step)) (occurrences_from next.board (suc i) (moves_of doings.script next cs)))
+      ap (λ (os : List OccurrenceView). told_on on (map (telling_of rows) os) z) (step_events stage.board p step i c run.0 zs) ∙ step_on stage p i c rows zs run.0 on was held_next in
+      ap (λ (os : List OccurrenceView). told_on on (map (telling_of rows) os) z) (filter-append (λ o. o.channel == c) (occurrences_in i step (happening_of stage.board p step)) (occurrences_from next.board (suc i) (moves_of doings.script next cs)))
       ∙ ap (λ (ts : List Telling). told_on on ts z) (map-append (telling_of rows) here there)
       ∙ ap (λ (f : ℕ → Bool). f z) (on_append on (map (telling_of rows) here) (map (telling_of rows) there))
       ∙ made_on cs next (suc i) rows c told (zones_step stage.board p step zs) run.1 now held

@@ -17,7 +17,7 @@ use Rattle.sync_types.specs.Boards.{among, channel_numbers, first_board}
 use Rattle.sync_types.specs.Runs.{Script, first_stage, stage_after}
 use Rattle.sync_types.specs.Views.{StartView}
 use Rattle.sync_types.specs.declared.runs.EventId.{EventId}
-use Rattle.zone_stretches.specs.Occurrences.{Occurrence, occurrences_of}
+use Rattle.zone_stretches.specs.Occurrences.{OccurrenceView, occurrences_of}
 use Rattle.zone_stretches.specs.Stretches.{StretchView, stretches_of_zone}
 
 -- how many events of a channel the run of these channels has
@@ -33,9 +33,9 @@ is_made script start speaking made e =
 -- the other run has.
 pub record IsCutOf (script : Script) (start : StartView) (speaking made : List ℕ) : Type 0 where
   pub closed : (e f : EventId) → Before (first_board start) (moves_by script start speaking) e f → is_made script start speaking made f ≡ true → is_made script start speaking made e ≡ true
-  pub first_ones : (c k : ℕ) (o : Occurrence) → slice_get (filter (λ p. p.channel == c) (occurrences_of (first_board start) (moves_by script start speaking))) k ≡ Some o
+  pub first_ones : (c k : ℕ) (o : OccurrenceView) → slice_get (filter (λ p. p.channel == c) (occurrences_of (first_board start) (moves_by script start speaking))) k ≡ Some o
       → k < event_count script start made c → is_made script start speaking made o.name ≡ true
-  pub no_others : (c k : ℕ) (o : Occurrence) → slice_get (filter (λ p. p.channel == c) (occurrences_of (first_board start) (moves_by script start speaking))) k ≡ Some o
+  pub no_others : (c k : ℕ) (o : OccurrenceView) → slice_get (filter (λ p. p.channel == c) (occurrences_of (first_board start) (moves_by script start speaking))) k ≡ Some o
       → among channel_numbers c ≡ true → event_count script start made c ≤ k → is_made script start speaking made o.name ≡ false
 
 abbrev pub RunsAreCuts : Script → StartView → List ℕ → List ℕ → Type 0

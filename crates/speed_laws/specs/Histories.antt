@@ -14,7 +14,7 @@ use Rattle.sync_types.specs.Views.{RunView, StartView}
 use Rattle.sync_types.specs.declared.Grant.{Grant}
 use Rattle.sync_types.specs.declared.Item.{Item}
 use Rattle.sync_types.specs.declared.Step.{Step}
-use Rattle.zone_stretches.specs.Occurrences.{Occurrence, occurrences_of}
+use Rattle.zone_stretches.specs.Occurrences.{OccurrenceView, occurrences_of}
 
 -- what an event tells: whether the channel goes on in it, the line of the block where it acts, where axes stand, which zones are on,
 -- and, of an act, the items before it
@@ -26,7 +26,7 @@ pub record Telling : Type 0 where
   pub items : List Item
 
 -- by the items of each step
-abbrev pub telling_of : List (List Item) → Occurrence → Telling
+abbrev pub telling_of : List (List Item) → OccurrenceView → Telling
 telling_of rows o = record { goes = o.name.go; line = o.line; at = o.at; on = o.on; items = if o.name.go then [] else slice_index_or rows o.name.step [] }
 
 -- by the channel's grants
@@ -64,7 +64,7 @@ items_by doings stage [] = []
 items_by doings stage (c ∷ cs) = doings.items c (stage.grants c) ∷ items_by doings (after_turn doings.script stage c) cs
 
 -- the events of a channel in the run in which these channels make their steps
-abbrev pub events_in_run : Doings → StartView → List ℕ → ℕ → List Occurrence
+abbrev pub events_in_run : Doings → StartView → List ℕ → ℕ → List OccurrenceView
 events_in_run doings start cs c = filter (λ o. o.channel == c) (occurrences_of (first_board start) (moves_by doings.script start cs))
 
 abbrev pub tellings_in_run : Doings → StartView → List ℕ → ℕ → List Telling

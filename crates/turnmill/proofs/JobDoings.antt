@@ -28,7 +28,7 @@ use Rattle.product_run.specs.RunLaws as laws
 use Rattle.product_run.specs.RunLaws.{MovesSoundly}
 use Rattle.channel_machine.specs.Scripts.{script_of, segment_after}
 use Rattle.zone_stretches.specs.ZoneBoxes.{moves_zone, seen, sight_of, stand_after}
-use Rattle.zone_stretches.specs.declared.sights.Sight.TheVariants.{Nothing, Turns, Moves}
+use Rattle.zone_stretches.specs.declared.sights.ZoneEffect.TheVariants.{Nothing, Turns, Moves}
 use Rattle.schedule_laws.specs.Schedules.{IsRunOf}
 use Rattle.speed_laws.proofs.KnownZones.{grant_tells}
 use Rattle.speed_laws.proofs.Positions.{left_at-cons}

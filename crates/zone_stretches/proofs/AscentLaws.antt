@@ -30,11 +30,11 @@ use Rattle.sync_types.specs.declared.verdicts.StretchKind.TheVariants.{Free}
 use Rattle.zone_stretches.proofs.EventLaws.{AreRising, InSteps, IsTold, all_told, in_steps, own_name, rising}
 use Rattle.zone_stretches.proofs.HandLaws.{HandsAre, carry_from, carry_to, run_hands}
 use Rattle.zone_stretches.proofs.StretchLaws.{each_zone_time}
-use Rattle.zone_stretches.specs.Occurrences.{Occurrence, occurrences_from, occurrences_of}
+use Rattle.zone_stretches.specs.Occurrences.{OccurrenceView, occurrences_from, occurrences_of}
 use Rattle.zone_stretches.specs.SoundStretches.{AreInOrder, IsAfter, IsZoneOf, StretchesAscend}
-use Rattle.zone_stretches.specs.Spans.{Beginning, Span, beginning_after, entry_of_beginning, first_beginning, span_to_end, span_until, spans_from, spans_of}
+use Rattle.zone_stretches.specs.Spans.{SpanStartView, Span, beginning_after, entry_of_beginning, first_beginning, span_to_end, span_until, spans_from, spans_of}
 use Rattle.zone_stretches.specs.Stretches.{StretchView, spans_between, spans_in, spans_until, stretch_between, stretch_of_span, stretches_held_by, stretches_in_tenure, stretches_of_zone}
-use Rattle.zone_stretches.specs.Tenures.{Tenure, carry, changes_hands, counted, first_tenure, tenure_after, tenure_until, tenures_from, tenures_of}
+use Rattle.zone_stretches.specs.Tenures.{TenureView, carry, changes_hands, counted, first_tenure, tenure_after, tenure_until, tenures_from, tenures_of}
 
 -- ---- parts of lists
 
@@ -74,29 +74,29 @@ turned m n off = elim (cases_Bool (m == n)) [ inl on ↦ no_truth (n == m) (eq-e
 -- ---- the stretches as the events come
 
 -- how the time begins that nobody holds the zone
-abbrev freed_beginning : Occurrence → Beginning
+abbrev freed_beginning : OccurrenceView → SpanStartView
 freed_beginning o = record { kind = Free; line = unwrap_or o.line 0; at = stands o.at; on = has o.on; first = Some o.name }
 
 -- the time of each channel after an event
-abbrev begun : (ℕ → Beginning) → Occurrence → ℕ → Beginning
+abbrev begun : (ℕ → SpanStartView) → OccurrenceView → ℕ → SpanStartView
 begun times o c = if c == o.channel then beginning_after (times c) o else times c
 
 -- the last span of a tenure ends with the tenure by itself
-abbrev pub EndsItself : (ℕ → List Span) → Tenure → Type 0
+abbrev pub EndsItself : (ℕ → List Span) → TenureView → Type 0
 EndsItself spans t = (c : ℕ) → t.owner ≡ Some c → spans_in (spans c) t ≡ spans_between (spans c) t.from t.upto
 
 module _ (job : JobView) (zone : ZoneLine) (items : List (List Item)) where
   -- the stretch that is current, as one event ends it, or as it lasts
-  abbrev ended : (ℕ → Beginning) → Beginning → Option ℕ → EventId → StretchView
+  abbrev ended : (ℕ → SpanStartView) → SpanStartView → Option ℕ → EventId → StretchView
   ended times free None e = stretch_between job zone None free (Some e) (entry_of_beginning free) []
   ended times free (Some c) e = stretch_of_span job zone c (span_until items (times c) e)
 
-  abbrev lasting : (ℕ → Beginning) → Beginning → Option ℕ → StretchView
+  abbrev lasting : (ℕ → SpanStartView) → SpanStartView → Option ℕ → StretchView
   lasting times free None = stretch_between job zone None free None (entry_of_beginning free) []
   lasting times free (Some c) = stretch_of_span job zone c (span_to_end (times c))
 
   -- the stretches from the current one on
-  abbrev line : (ℕ → Beginning) → Beginning → Option ℕ → List Occurrence → List StretchView
+  abbrev line : (ℕ → SpanStartView) → SpanStartView → Option ℕ → List OccurrenceView → List StretchView
   line times free owner [] = lasting times free owner ∷ []
   line times free owner (o ∷ os) =
       if changes_hands zone o
@@ -104,29 +104,29 @@ module _ (job : JobView) (zone : ZoneLine) (items : List (List Item)) where
       else cond (is_this owner o.channel) (ended times free owner o.name ∷ line (begun times o) free owner os) (line (begun times o) free owner os)
 
   -- so many events of each channel have been, and each channel's time has begun so
-  abbrev AreAt : (ℕ → List Span) → (ℕ → ℕ) → (ℕ → Beginning) → List Occurrence → Type 0
+  abbrev AreAt : (ℕ → List Span) → (ℕ → ℕ) → (ℕ → SpanStartView) → List OccurrenceView → Type 0
   AreAt spans counts times os = (c : ℕ) → drop (counts c) (spans c) ≡ spans_from items (times c) (filter (λ o. o.channel == c) os)
 
   -- a tenure that lasts, and has begun
-  record IsCurrent (counts : ℕ → ℕ) (t : Tenure) : Type 0 where
+  record IsCurrent (counts : ℕ → ℕ) (t : TenureView) : Type 0 where
     lasts : t.upto ≡ None
     unended : t.last ≡ None
     begun_at : (c : ℕ) → t.owner ≡ Some c → t.from ≤ counts c
 
   -- the stretches that have ended in it
-  abbrev past : (ℕ → List Span) → (ℕ → ℕ) → Tenure → Option ℕ → List StretchView
+  abbrev past : (ℕ → List Span) → (ℕ → ℕ) → TenureView → Option ℕ → List StretchView
   past spans counts t None = []
   past spans counts t (Some c) = map (stretch_of_span job zone c) (take (counts c - t.from) (drop t.from (spans c)))
 
-  spans_here : (begins : Beginning) (c : ℕ) (o : Occurrence) (os : List Occurrence) → o.channel ≡ c
+  spans_here : (begins : SpanStartView) (c : ℕ) (o : OccurrenceView) (os : List OccurrenceView) → o.channel ≡ c
       → spans_from items begins (filter (λ p. p.channel == c) (o ∷ os)) ≡ span_until items begins o.name ∷ spans_from items (beginning_after begins o) (filter (λ p. p.channel == c) os)
   spans_here begins c o os same = rw (eq-eqb o.channel c same) refl
 
-  spans_other : (begins : Beginning) (c : ℕ) (o : Occurrence) (os : List Occurrence) → (o.channel == c) ≡ false
+  spans_other : (begins : SpanStartView) (c : ℕ) (o : OccurrenceView) (os : List OccurrenceView) → (o.channel == c) ≡ false
       → spans_from items begins (filter (λ p. p.channel == c) (o ∷ os)) ≡ spans_from items begins (filter (λ p. p.channel == c) os)
   spans_other begins c o os other = rw other refl
 
-  next_at : (spans : ℕ → List Span) (counts : ℕ → ℕ) (times : ℕ → Beginning) (o : Occurrence) (os : List Occurrence) → AreAt spans counts times (o ∷ os) → AreAt spans (counted counts o.channel) (begun times o) os
+  next_at : (spans : ℕ → List Span) (counts : ℕ → ℕ) (times : ℕ → SpanStartView) (o : OccurrenceView) (os : List OccurrenceView) → AreAt spans counts times (o ∷ os) → AreAt spans (counted counts o.channel) (begun times o) os
   next_at spans counts times o os at d = elim (cases_Bool (d == o.channel)) [
     | inl here ↦
         let same : o.channel ≡ d = sym (eqb-true d o.channel here) in
@@ -136,7 +136,7 @@ module _ (job : JobView) (zone : ZoneLine) (items : List (List Item)) where
 
   -- ---- the stretches of the tenures are those of the line
 
-  last_is : (spans : ℕ → List Span) (counts : ℕ → ℕ) (times : ℕ → Beginning) (t : Tenure) → AreAt spans counts times [] → IsCurrent counts t
+  last_is : (spans : ℕ → List Span) (counts : ℕ → ℕ) (times : ℕ → SpanStartView) (t : TenureView) → AreAt spans counts times [] → IsCurrent counts t
       → stretches_held_by job zone spans t t.owner ≡ past spans counts t t.owner ++ lasting times t.begins t.owner ∷ []
   last_is spans counts times t at current = by_owner t.owner refl
     where
@@ -148,7 +148,7 @@ module _ (job : JobView) (zone : ZoneLine) (items : List (List Item)) where
           rw (current.lasts, current.unended) (ap (map (stretch_of_span job zone c)) (ap (spans_until None) whole ∙ until_end None (take (counts c - t.from) (drop t.from (spans c))) (span_to_end (times c))) ∙ map-append (stretch_of_span job zone c) (take (counts c - t.from) (drop t.from (spans c))) (span_to_end (times c) ∷ []))
 
   -- the span that an event of its channel ends
-  span_last : (spans : ℕ → List Span) (counts : ℕ → ℕ) (times : ℕ → Beginning) (from c : ℕ) (o : Occurrence) (os : List Occurrence) → AreAt spans counts times (o ∷ os) → from ≤ counts c → o.channel ≡ c
+  span_last : (spans : ℕ → List Span) (counts : ℕ → ℕ) (times : ℕ → SpanStartView) (from c : ℕ) (o : OccurrenceView) (os : List OccurrenceView) → AreAt spans counts times (o ∷ os) → from ≤ counts c → o.channel ≡ c
       → take (suc (counts c) - from) (drop from (spans c)) ≡ take (counts c - from) (drop from (spans c)) ++ span_until items (times c) o.name ∷ []
   span_last spans counts times from c o os at up same =
       let more : suc (counts c) - from ≡ suc (counts c - from) = omega arith in
@@ -156,7 +156,7 @@ module _ (job : JobView) (zone : ZoneLine) (items : List (List Item)) where
       drop_rest from (counts c) (spans c) up ∙ (at c ∙ spans_here (times c) c o os same) in
       rw more (take_next (counts c - from) (drop from (spans c)) (spans_from items (beginning_after (times c) o) (filter (λ p. p.channel == c) os)) (span_until items (times c) o.name) left)
 
-  span_ends : (spans : ℕ → List Span) (counts : ℕ → ℕ) (times : ℕ → Beginning) (from c : ℕ) (o : Occurrence) (os : List Occurrence) → AreAt spans counts times (o ∷ os) → from ≤ counts c → o.channel ≡ c
+  span_ends : (spans : ℕ → List Span) (counts : ℕ → ℕ) (times : ℕ → SpanStartView) (from c : ℕ) (o : OccurrenceView) (os : List OccurrenceView) → AreAt spans counts times (o ∷ os) → from ≤ counts c → o.channel ≡ c
       → map (stretch_of_span job zone c) (take (suc (counts c) - from) (drop from (spans c)))
       ≡ map (stretch_of_span job zone c) (take (counts c - from) (drop from (spans c))) ++ stretch_of_span job zone c (span_until items (times c) o.name) ∷ []
   span_ends spans counts times from c o os at up same =
@@ -164,13 +164,13 @@ module _ (job : JobView) (zone : ZoneLine) (items : List (List Item)) where
       ∙ map-append (stretch_of_span job zone c) (take (counts c - from) (drop from (spans c))) (span_until items (times c) o.name ∷ [])
 
   -- it ends with the tenure too
-  span_until_is : (spans : ℕ → List Span) (counts : ℕ → ℕ) (times : ℕ → Beginning) (from c : ℕ) (o : Occurrence) (os : List Occurrence) → AreAt spans counts times (o ∷ os) → from ≤ counts c → o.channel ≡ c
+  span_until_is : (spans : ℕ → List Span) (counts : ℕ → ℕ) (times : ℕ → SpanStartView) (from c : ℕ) (o : OccurrenceView) (os : List OccurrenceView) → AreAt spans counts times (o ∷ os) → from ≤ counts c → o.channel ≡ c
       → spans_until (Some o.name) (take (suc (counts c) - from) (drop from (spans c))) ≡ take (suc (counts c) - from) (drop from (spans c))
   span_until_is spans counts times from c o os at up same =
       let last = span_last spans counts times from c o os at up same in
       ap (spans_until (Some o.name)) last ∙ until_end (Some o.name) (take (counts c - from) (drop from (spans c))) (span_until items (times c) o.name) ∙ sym last
 
-  until_is : (spans : ℕ → List Span) (counts : ℕ → ℕ) (times : ℕ → Beginning) (t : Tenure) (o : Occurrence) (os : List Occurrence) → AreAt spans counts times (o ∷ os) → IsCurrent counts t
+  until_is : (spans : ℕ → List Span) (counts : ℕ → ℕ) (times : ℕ → SpanStartView) (t : TenureView) (o : OccurrenceView) (os : List OccurrenceView) → AreAt spans counts times (o ∷ os) → IsCurrent counts t
       → ((c : ℕ) → t.owner ≡ Some c → o.channel ≡ c)
       → stretches_held_by job zone spans (tenure_until counts t o) t.owner ≡ past spans counts t t.owner ++ ended times t.begins t.owner o.name ∷ []
   until_is spans counts times t o os at current own = by_owner t.owner refl
@@ -182,7 +182,7 @@ module _ (job : JobView) (zone : ZoneLine) (items : List (List Item)) where
           ap (map (stretch_of_span job zone c)) (span_until_is spans counts times t.from c o os at (current.begun_at c is) (own c is))
           ∙ span_ends spans counts times t.from c o os at (current.begun_at c is) (own c is)
 
-  stay_is : (spans : ℕ → List Span) (counts : ℕ → ℕ) (times : ℕ → Beginning) (t : Tenure) (o : Occurrence) (os : List Occurrence) → AreAt spans counts times (o ∷ os) → IsCurrent counts t
+  stay_is : (spans : ℕ → List Span) (counts : ℕ → ℕ) (times : ℕ → SpanStartView) (t : TenureView) (o : OccurrenceView) (os : List OccurrenceView) → AreAt spans counts times (o ∷ os) → IsCurrent counts t
       → past spans (counted counts o.channel) t t.owner ≡ past spans counts t t.owner ++ cond (is_this t.owner o.channel) (ended times t.begins t.owner o.name ∷ []) []
   stay_is spans counts times t o os at current = by_owner t.owner refl
     where
@@ -194,14 +194,14 @@ module _ (job : JobView) (zone : ZoneLine) (items : List (List Item)) where
         | inr other ↦ rw other (sym (append-nil (map (stretch_of_span job zone c) (take (counts c - t.from) (drop t.from (spans c))))))
       ]
 
-  stays_current : (counts : ℕ → ℕ) (t : Tenure) (d : ℕ) → IsCurrent counts t → IsCurrent (counted counts d) t
+  stays_current : (counts : ℕ → ℕ) (t : TenureView) (d : ℕ) → IsCurrent counts t → IsCurrent (counted counts d) t
   stays_current counts t d current = record { lasts = current.lasts; unended = current.unended; begun_at = λ c is. by_test (c == d) c (current.begun_at c is) }
     where
       by_test : (b : Bool) (c : ℕ) → t.from ≤ counts c → t.from ≤ cond b (suc (counts c)) (counts c)
       by_test true c up = omega arith
       by_test false c up = up
 
-  after_current : (counts : ℕ → ℕ) (o : Occurrence) → IsCurrent (counted counts o.channel) (tenure_after zone counts o)
+  after_current : (counts : ℕ → ℕ) (o : OccurrenceView) → IsCurrent (counted counts o.channel) (tenure_after zone counts o)
   after_current counts o = record { lasts = refl; unended = refl; begun_at = λ c is. by_takes (carry zone o.takes) c is }
     where
       by_takes : (b : Bool) (c : ℕ) → cond b (Some o.channel) None ≡ Some c → suc (counts o.channel) ≤ counted counts o.channel c
@@ -212,7 +212,7 @@ module _ (job : JobView) (zone : ZoneLine) (items : List (List Item)) where
           rw here (omega arith)
       by_takes false c is = absurd cc
 
-  after_past : (spans : ℕ → List Span) (counts : ℕ → ℕ) (o : Occurrence) → past spans (counted counts o.channel) (tenure_after zone counts o) (tenure_after zone counts o).owner ≡ []
+  after_past : (spans : ℕ → List Span) (counts : ℕ → ℕ) (o : OccurrenceView) → past spans (counted counts o.channel) (tenure_after zone counts o) (tenure_after zone counts o).owner ≡ []
   after_past spans counts o = by_takes (carry zone o.takes)
     where
       by_takes : (b : Bool) → past spans (counted counts o.channel) (tenure_after zone counts o) (cond b (Some o.channel) None) ≡ []
@@ -223,14 +223,14 @@ module _ (job : JobView) (zone : ZoneLine) (items : List (List Item)) where
       by_takes false = refl
 
   -- where hands change, who holds the zone lets it go
-  change_own : (owner : Option ℕ) (o : Occurrence) → changes_hands zone o ≡ true → (carry zone o.frees ≡ true → owner ≡ Some o.channel) → (carry zone o.takes ≡ true → owner ≡ None)
+  change_own : (owner : Option ℕ) (o : OccurrenceView) → changes_hands zone o ≡ true → (carry zone o.frees ≡ true → owner ≡ Some o.channel) → (carry zone o.takes ≡ true → owner ≡ None)
       → (c : ℕ) → owner ≡ Some c → o.channel ≡ c
   change_own owner o changes frees takes c is = elim (or_cases (carry zone o.frees) (carry zone o.takes) changes) [
     | inl let_go ↦ let same : Some o.channel ≡ Some c = sym (frees let_go) ∙ is in cc
     | inr taken ↦ let bad : None ≡ Some c = sym (takes taken) ∙ is in absurd cc
   ]
 
-  line_is : (spans : ℕ → List Span) (os : List Occurrence) (counts : ℕ → ℕ) (times : ℕ → Beginning) (t : Tenure) → AreAt spans counts times os → IsCurrent counts t → HandsAre zone t.owner os
+  line_is : (spans : ℕ → List Span) (os : List OccurrenceView) (counts : ℕ → ℕ) (times : ℕ → SpanStartView) (t : TenureView) → AreAt spans counts times os → IsCurrent counts t → HandsAre zone t.owner os
       → flat_map (stretches_in_tenure job zone spans) (tenures_from zone counts t os) ≡ past spans counts t t.owner ++ line times t.begins t.owner os
   line_is spans [] counts times t at current hands = append-nil (stretches_in_tenure job zone spans t) ∙ last_is spans counts times t at current
   line_is spans (o ∷ os) counts times t at current hands =
@@ -263,13 +263,13 @@ module _ (job : JobView) (zone : ZoneLine) (items : List (List Item)) where
 
   -- ---- a channel's span ends where it lets the zone go
 
-  last_itself : (spans : ℕ → List Span) (counts : ℕ → ℕ) (times : ℕ → Beginning) (t : Tenure) → AreAt spans counts times [] → IsCurrent counts t → EndsItself spans t
+  last_itself : (spans : ℕ → List Span) (counts : ℕ → ℕ) (times : ℕ → SpanStartView) (t : TenureView) → AreAt spans counts times [] → IsCurrent counts t → EndsItself spans t
   last_itself spans counts times t at current c is =
       let left : drop (counts c - t.from) (drop t.from (spans c)) ≡ span_to_end (times c) ∷ [] = drop_rest t.from (counts c) (spans c) (current.begun_at c is) ∙ at c in
       let whole : drop t.from (spans c) ≡ take (counts c - t.from) (drop t.from (spans c)) ++ span_to_end (times c) ∷ [] = take_last (counts c - t.from) (drop t.from (spans c)) (span_to_end (times c)) left in
       rw (current.lasts, current.unended) (ap (spans_until None) whole ∙ until_end None (take (counts c - t.from) (drop t.from (spans c))) (span_to_end (times c)) ∙ sym whole)
 
-  until_itself : (spans : ℕ → List Span) (counts : ℕ → ℕ) (times : ℕ → Beginning) (t : Tenure) (o : Occurrence) (os : List Occurrence) → AreAt spans counts times (o ∷ os) → IsCurrent counts t
+  until_itself : (spans : ℕ → List Span) (counts : ℕ → ℕ) (times : ℕ → SpanStartView) (t : TenureView) (o : OccurrenceView) (os : List OccurrenceView) → AreAt spans counts times (o ∷ os) → IsCurrent counts t
       → ((c : ℕ) → t.owner ≡ Some c → o.channel ≡ c) → EndsItself spans (tenure_until counts t o)
   until_itself spans counts times t o os at current own c is = by_owner t.owner is
     where
@@ -281,7 +281,7 @@ module _ (job : JobView) (zone : ZoneLine) (items : List (List Item)) where
           subst (λ (e : ℕ). spans_until (Some o.name) (take (suc (counts e) - t.from) (drop t.from (spans c))) ≡ take (suc (counts e) - t.from) (drop t.from (spans c))) same
           (span_until_is spans counts times t.from c o os at (current.begun_at c is) (own c is))
 
-  all_itself : (spans : ℕ → List Span) (os : List Occurrence) (counts : ℕ → ℕ) (times : ℕ → Beginning) (t : Tenure) → AreAt spans counts times os → IsCurrent counts t → HandsAre zone t.owner os
+  all_itself : (spans : ℕ → List Span) (os : List OccurrenceView) (counts : ℕ → ℕ) (times : ℕ → SpanStartView) (t : TenureView) → AreAt spans counts times os → IsCurrent counts t → HandsAre zone t.owner os
       → All (EndsItself spans) (tenures_from zone counts t os)
   all_itself spans [] counts times t at current hands = All-cons (EndsItself spans) t [] (last_itself spans counts times t at current) (All-nil (EndsItself spans))
   all_itself spans (o ∷ os) counts times t at current hands =
@@ -302,7 +302,7 @@ module _ (job : JobView) (zone : ZoneLine) (items : List (List Item)) where
 
   module _ (b : Board) (moves : List Move) where
     -- the event with which a channel's time has begun is before each event of the channel to come
-    abbrev Since : Option EventId → ℕ → List Occurrence → Type 0
+    abbrev Since : Option EventId → ℕ → List OccurrenceView → Type 0
     Since None c os = ⊤
     Since (Some e) c os = (x : EventId) × (x.channel ≡ c) × AreOne b moves e x × All (λ o. o.channel ≡ c → moment x < moment (own_name o)) os
 
@@ -318,7 +318,7 @@ module _ (job : JobView) (zone : ZoneLine) (items : List (List Item)) where
     FreeSince n None = ⊤
     FreeSince n (Some e) = IsFreed n e
 
-    record InLine (n : ℕ) (times : ℕ → Beginning) (free : Beginning) (owner : Option ℕ) (os : List Occurrence) : Type 0 where
+    record InLine (n : ℕ) (times : ℕ → SpanStartView) (free : SpanStartView) (owner : Option ℕ) (os : List OccurrenceView) : Type 0 where
       told : All (IsTold b moves) os
       steps : InSteps n os
       rising : AreRising os
@@ -326,21 +326,21 @@ module _ (job : JobView) (zone : ZoneLine) (items : List (List Item)) where
       since : (c : ℕ) → Since (times c).first c os
       freed : owner ≡ None → FreeSince n free.first
 
-    abbrev first_now : (ℕ → Beginning) → Beginning → Option ℕ → Option EventId
+    abbrev first_now : (ℕ → SpanStartView) → SpanStartView → Option ℕ → Option EventId
     first_now times free None = free.first
     first_now times free (Some c) = (times c).first
 
-    ended_in_order : (times : ℕ → Beginning) (free : Beginning) (owner : Option ℕ) (e : EventId) (rest : List StretchView) → IsAfter b moves (first_now times free owner) e → AreInOrder b moves (Some e) rest
+    ended_in_order : (times : ℕ → SpanStartView) (free : SpanStartView) (owner : Option ℕ) (e : EventId) (rest : List StretchView) → IsAfter b moves (first_now times free owner) e → AreInOrder b moves (Some e) rest
         → AreInOrder b moves (first_now times free owner) (ended times free owner e ∷ rest)
     ended_in_order times free None e rest goes order = (refl, (goes, order))
     ended_in_order times free (Some c) e rest goes order = (refl, (goes, order))
 
-    lasting_in_order : (times : ℕ → Beginning) (free : Beginning) (owner : Option ℕ) → AreInOrder b moves (first_now times free owner) (lasting times free owner ∷ [])
+    lasting_in_order : (times : ℕ → SpanStartView) (free : SpanStartView) (owner : Option ℕ) → AreInOrder b moves (first_now times free owner) (lasting times free owner ∷ [])
     lasting_in_order times free None = (refl, refl)
     lasting_in_order times free (Some c) = (refl, refl)
 
     -- from one event of a channel on to its next
-    channel_goes : (first : Option EventId) (c : ℕ) (o : Occurrence) (os : List Occurrence) → IsTold b moves o → Since first c (o ∷ os) → o.channel ≡ c → IsAfter b moves first o.name
+    channel_goes : (first : Option EventId) (c : ℕ) (o : OccurrenceView) (os : List OccurrenceView) → IsTold b moves o → Since first c (o ∷ os) → o.channel ≡ c → IsAfter b moves first o.name
     channel_goes None c o os told since same = tt
     channel_goes (Some e) c o os told since same = (
       [],
@@ -354,7 +354,7 @@ module _ (job : JobView) (zone : ZoneLine) (items : List (List Item)) where
     )
 
     -- from the act that let the axes go on to who takes them
-    free_goes : (first : Option EventId) (n : ℕ) (o : Occurrence) → IsTold b moves o → FreeSince n first → suc o.name.step ≡ n → carry zone o.takes ≡ true → IsAfter b moves first o.name
+    free_goes : (first : Option EventId) (n : ℕ) (o : OccurrenceView) → IsTold b moves o → FreeSince n first → suc o.name.step ≡ n → carry zone o.takes ≡ true → IsAfter b moves first o.name
     free_goes None n o told freed here on = tt
     free_goes (Some e) n o told freed here on =
         let w = carry_from zone o.takes on in (
@@ -379,7 +379,7 @@ module _ (job : JobView) (zone : ZoneLine) (items : List (List Item)) where
 
     -- ---- one event of the line
 
-    own_since : (times : ℕ → Beginning) (o : Occurrence) (os : List Occurrence) → IsTold b moves o → AreRising (o ∷ os) → ((c : ℕ) → Since (times c).first c (o ∷ os)) → (c : ℕ) → Since (begun times o c).first c os
+    own_since : (times : ℕ → SpanStartView) (o : OccurrenceView) (os : List OccurrenceView) → IsTold b moves o → AreRising (o ∷ os) → ((c : ℕ) → Since (times c).first c (o ∷ os)) → (c : ℕ) → Since (begun times o c).first c os
     own_since times o os told rising since c = elim (cases_Bool (c == o.channel)) [
       | inl here ↦
           let same : c ≡ o.channel = eqb-true c o.channel here in
@@ -395,20 +395,20 @@ module _ (job : JobView) (zone : ZoneLine) (items : List (List Item)) where
     abbrev next_step : ℕ → Bool → ℕ
     next_step n go = cond go n (suc n)
 
-    steps_next : (n : ℕ) (o : Occurrence) (os : List Occurrence) → InSteps n (o ∷ os) → InSteps (next_step n o.name.go) os
+    steps_next : (n : ℕ) (o : OccurrenceView) (os : List OccurrenceView) → InSteps n (o ∷ os) → InSteps (next_step n o.name.go) os
     steps_next n o os (inl (acts, step, rest)) = rw acts rest
     steps_next n o os (inr (goes, step, rest)) = rw goes rest
 
-    step_of_act : (n : ℕ) (o : Occurrence) (os : List Occurrence) → InSteps n (o ∷ os) → o.name.go ≡ false → o.name.step ≡ n
+    step_of_act : (n : ℕ) (o : OccurrenceView) (os : List OccurrenceView) → InSteps n (o ∷ os) → o.name.go ≡ false → o.name.step ≡ n
     step_of_act n o os (inl (acts, step, rest)) act = step
     step_of_act n o os (inr (goes, step, rest)) act = no_truth o.name.go goes act
 
-    step_of_going : (n : ℕ) (o : Occurrence) (os : List Occurrence) → InSteps n (o ∷ os) → o.name.go ≡ true → suc o.name.step ≡ n
+    step_of_going : (n : ℕ) (o : OccurrenceView) (os : List OccurrenceView) → InSteps n (o ∷ os) → o.name.go ≡ true → suc o.name.step ≡ n
     step_of_going n o os (inl (acts, step, rest)) go = no_truth o.name.go go acts
     step_of_going n o os (inr (goes, step, rest)) go = step
 
     -- where nobody lets the axes go they stay free
-    free_next : (n : ℕ) (first : Option EventId) (o : Occurrence) (os : List Occurrence) → IsTold b moves o → InSteps n (o ∷ os) → carry zone o.frees ≡ false → FreeSince n first → FreeSince (next_step n o.name.go) first
+    free_next : (n : ℕ) (first : Option EventId) (o : OccurrenceView) (os : List OccurrenceView) → IsTold b moves o → InSteps n (o ∷ os) → carry zone o.frees ≡ false → FreeSince n first → FreeSince (next_step n o.name.go) first
     free_next n None o os told steps off freed = tt
     free_next n (Some e) o os told steps off freed = by_go o.name.go refl
       where
@@ -433,7 +433,7 @@ module _ (job : JobView) (zone : ZoneLine) (items : List (List Item)) where
             record { act = freed.act; early = omega arith; one = freed.one; given = freed.given; none_later = quiet acts }
 
     -- an act that lets the axes go
-    newly_freed : (n : ℕ) (o : Occurrence) (os : List Occurrence) → IsTold b moves o → InSteps n (o ∷ os) → (carry zone o.frees ≡ true → (x : ℕ) → has_axis zone x ≡ true → o.frees x ≡ true)
+    newly_freed : (n : ℕ) (o : OccurrenceView) (os : List OccurrenceView) → IsTold b moves o → InSteps n (o ∷ os) → (carry zone o.frees ≡ true → (x : ℕ) → has_axis zone x ≡ true → o.frees x ≡ true)
         → carry zone o.frees ≡ true → IsFreed (next_step n o.name.go) o.name
     newly_freed n o os told steps all on = by_go o.name.go refl
       where
@@ -449,7 +449,7 @@ module _ (job : JobView) (zone : ZoneLine) (items : List (List Item)) where
               none_later = λ x axis k after below. absurd (omega (arith, here));
             }
 
-    line_in_order : (os : List Occurrence) (n : ℕ) (times : ℕ → Beginning) (free : Beginning) (owner : Option ℕ) → InLine n times free owner os → AreInOrder b moves (first_now times free owner) (line times free owner os)
+    line_in_order : (os : List OccurrenceView) (n : ℕ) (times : ℕ → SpanStartView) (free : SpanStartView) (owner : Option ℕ) → InLine n times free owner os → AreInOrder b moves (first_now times free owner) (line times free owner os)
     line_in_order [] n times free owner is = lasting_in_order times free owner
     line_in_order (o ∷ os) n times free owner is =
         by_test (changes_hands zone o) refl
@@ -547,7 +547,7 @@ unfolding stretches_of_zone spans_of tenures_of occurrences_of
 zone_ascends job start run zone comes is =
     let b : Board = first_board start in
     let moves : List Move = moves_in run.entries in
-    let os : List Occurrence = occurrences_from b 0 moves in
+    let os : List OccurrenceView = occurrences_from b 0 moves in
     let running : AreOfRunning b moves = running_moves run.entries b comes.entries in
     let hands : HandsAre zone zone.holder os = subst (λ (p : Option ℕ). HandsAre zone p os) is.holder (run_hands moves b zone 0 (zones_first start comes.sound) is.axes) in
     let same : flat_map (stretches_in_tenure job zone (spans_of job run.items os)) (tenures_from zone (λ c. 0) (first_tenure job zone) os)
@@ -580,7 +580,7 @@ pub spans_end_with_tenures : (job : JobView) (start : StartView) (items : List (
     → All (EndsItself (spans_of job items (occurrences_of (first_board start) moves))) (tenures_of job (occurrences_of (first_board start) moves) zone)
 unfolding spans_of tenures_of occurrences_of
 spans_end_with_tenures job start items moves zone zones is =
-    let os : List Occurrence = occurrences_from (first_board start) 0 moves in
+    let os : List OccurrenceView = occurrences_from (first_board start) 0 moves in
     let hands : HandsAre zone zone.holder os = subst (λ (p : Option ℕ). HandsAre zone p os) is.holder (run_hands moves (first_board start) zone 0 zones is.axes) in
     all_itself job zone items (spans_of job items os) os (λ c. 0) (first_beginning job) (first_tenure job zone) (λ c. refl)
     (record { lasts = refl; unended = refl; begun_at = λ c owns. omega arith }) hands

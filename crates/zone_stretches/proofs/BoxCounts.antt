@@ -20,15 +20,15 @@ use Rattle.sync_types.specs.declared.Item.{Item}
 use Rattle.sync_types.specs.declared.runs.EventId.{EventId}
 use Rattle.zone_stretches.proofs.CostLaws.{cost, cost_of_all, events_cost, tenure_cost, tenures_cost, weights, weights_are, weights_between}
 use Rattle.zone_stretches.proofs.StretchLaws.{each_time}
-use Rattle.zone_stretches.specs.Occurrences.{Occurrence, going_on_of, occurrences_from, occurrences_of}
+use Rattle.zone_stretches.specs.Occurrences.{OccurrenceView, going_on_of, occurrences_from, occurrences_of}
 use Rattle.zone_stretches.specs.Overlaps.{Order, Pair, ZoneTime, are_compared, box_pairs, compared_pairs, may_overlap, pairs_by_group, pairs_of_zones, stretch_pairs, zone_times}
 use Rattle.zone_stretches.specs.SoundStretches.{BOX_LIMIT, BoxesAreFew, PairsAreFew, box_count}
-use Rattle.zone_stretches.specs.Spans.{Beginning, Span, first_beginning, spans_of}
+use Rattle.zone_stretches.specs.Spans.{SpanStartView, Span, first_beginning, spans_of}
 use Rattle.zone_stretches.specs.Stretches.{StretchView, StretchesView, all_stretches, free_stretch, spans_between, spans_in, spans_until, stretch_between, stretch_of_span, stretches_held_by, stretches_in_tenure, stretches_of_zone}
-use Rattle.zone_stretches.specs.Tenures.{Tenure, first_tenure, tenures_of}
+use Rattle.zone_stretches.specs.Tenures.{TenureView, first_tenure, tenures_of}
 use Rattle.zone_stretches.specs.ZoneBoxes.{boxes_of, closed, closed_before, next_open, seen, shown_box, stand_after, walk, Opened, Shut, Waiting, Moving}
-use Rattle.zone_stretches.specs.declared.sights.Sight.{Sight}
-use Rattle.zone_stretches.specs.declared.sights.Sight.TheVariants.{Nothing, Turns, Moves}
+use Rattle.zone_stretches.specs.declared.sights.ZoneEffect.{ZoneEffect}
+use Rattle.zone_stretches.specs.declared.sights.ZoneEffect.TheVariants.{Nothing, Turns, Moves}
 
 -- ---- a span
 
@@ -37,7 +37,7 @@ closed_few to Shut = omega arith
 closed_few to (Waiting from line at) = omega arith
 closed_few to (Moving from place item at) = omega arith
 
-before_few : (to : ℕ) (o : Opened) (s : Sight) → length (closed_before to o s) ≤ 1
+before_few : (to : ℕ) (o : Opened) (s : ZoneEffect) → length (closed_before to o s) ≤ 1
 before_few to Shut Nothing = omega arith
 before_few to Shut (Turns true) = omega arith
 before_few to Shut (Turns false) = omega arith
@@ -66,7 +66,7 @@ unfolding boxes_of
 boxes_few zone true line at items = walk_few zone 0 (Waiting 0 line at) at items
 boxes_few zone false line at items = walk_few zone 0 Shut at items
 
-stretch_few : (job : JobView) (zone : ZoneLine) (channel : Option ℕ) (begins : Beginning) (last : Option EventId) (entry : ℕ) (items : List Item)
+stretch_few : (job : JobView) (zone : ZoneLine) (channel : Option ℕ) (begins : SpanStartView) (last : Option EventId) (entry : ℕ) (items : List Item)
     → length (stretch_between job zone channel begins last entry items).boxes ≤ suc (length items)
 stretch_few job zone channel begins last entry items =
     omega (
@@ -98,7 +98,7 @@ until_alike last [] = refl
 until_alike last (span ∷ []) = refl
 until_alike last (span ∷ next ∷ spans) = ap (λ (ws : List ℕ). length span.items ∷ ws) (until_alike last (next ∷ spans))
 
-held_few : (job : JobView) (zone : ZoneLine) (spans : ℕ → List Span) (t : Tenure) (owner : Option ℕ)
+held_few : (job : JobView) (zone : ZoneLine) (spans : ℕ → List Span) (t : TenureView) (owner : Option ℕ)
     → box_count (stretches_held_by job zone spans t owner) ≤ tenure_cost (λ c. map (λ span. length span.items) (spans c)) t owner
 held_few job zone spans t None =
     omega (arith, sum_by-cons (λ stretch. length stretch.boxes) (free_stretch job zone t) [], stretch_few job zone None t.begins t.last (free_stretch job zone t).entry [])
@@ -107,7 +107,7 @@ held_few job zone spans t (Some c) =
     (until_alike t.last (spans_between (spans c) t.from t.upto) ∙ between_alike (spans c) t.from t.upto)
     (spans_few job zone c (spans_in (spans c) t))
 
-all_held_few : (job : JobView) (zone : ZoneLine) (spans : ℕ → List Span) (ts : List Tenure)
+all_held_few : (job : JobView) (zone : ZoneLine) (spans : ℕ → List Span) (ts : List TenureView)
     → box_count (flat_map (stretches_in_tenure job zone spans) ts) ≤ cost_of_all (λ c. map (λ span. length span.items) (spans c)) ts
 all_held_few job zone spans [] = omega arith
 all_held_few job zone spans (t ∷ ts) =
@@ -118,7 +118,7 @@ all_held_few job zone spans (t ∷ ts) =
       all_held_few job zone spans ts,
     )
 
-zone_few : (job : JobView) (items : List (List Item)) (occurrences : List Occurrence) (zone : ZoneLine)
+zone_few : (job : JobView) (items : List (List Item)) (occurrences : List OccurrenceView) (zone : ZoneLine)
     → box_count (stretches_of_zone job items occurrences zone) ≤ events_cost items occurrences + suc (length occurrences)
 unfolding stretches_of_zone spans_of tenures_of
 zone_few job items occurrences zone =
@@ -136,7 +136,7 @@ going_cost : (items : List (List Item)) (i : ℕ) (all goings : List Going) → 
 going_cost items i all [] = refl
 going_cost items i all (g ∷ goings) = omega (arith, going_cost items i all goings)
 
-cost-append : (items : List (List Item)) (os ps : List Occurrence) → events_cost items (os ++ ps) ≡ events_cost items os + events_cost items ps
+cost-append : (items : List (List Item)) (os ps : List OccurrenceView) → events_cost items (os ++ ps) ≡ events_cost items os + events_cost items ps
 cost-append items [] ps = omega arith
 cost-append items (o ∷ os) ps = omega (arith, cost-append items os ps)
 
@@ -148,7 +148,7 @@ rest_of_items (x ∷ xs) zero = omega (arith, sum_by-cons length x xs)
 rest_of_items (x ∷ xs) (suc i) = rest_of_items xs i
 
 -- how many events and items the steps from a place on have
-record AreFewFrom (items : List (List Item)) (i : ℕ) (es : List EntryView) (os : List Occurrence) : Type 0 where
+record AreFewFrom (items : List (List Item)) (i : ℕ) (es : List EntryView) (os : List OccurrenceView) : Type 0 where
   events : length os ≤ CHANNEL_PLACES * length es
   cost : events_cost items os ≤ CHANNEL_PLACES * length es + sum_by length (drop i items)
 
@@ -160,8 +160,8 @@ events_few items (e ∷ es) b i are few =
     let goings : List Going = goings_in_step b e.channel e.step in
     let same : length e.goes ≡ length goings = ap (λ (x : EntryView). length x.goes) are.1 ∙ length-map goings go_of in
     let here : length e.goes ≤ CHANNEL_LIMIT = All-head (λ e. length e.goes ≤ CHANNEL_LIMIT) e es few in
-    let later : List Occurrence = occurrences_from (after_step b e.channel e.step) (suc i) (moves_in es) in
-    let now : List Occurrence = map (going_on_of i goings) goings in
+    let later : List OccurrenceView = occurrences_from (after_step b e.channel e.step) (suc i) (moves_in es) in
+    let now : List OccurrenceView = map (going_on_of i goings) goings in
     record {
       events = omega (arith, rest.events, same, here, length-append now later, length-map goings (going_on_of i goings));
       cost = omega (arith, rest.cost, same, here, cost-append items now later, going_cost items i goings goings, rest_of_items items i);

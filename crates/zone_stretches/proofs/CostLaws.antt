@@ -8,9 +8,9 @@ use Rattle.job_types.specs.declared.job.ZoneLine.{ZoneLine}
 use Rattle.sync_types.proofs.BoardTests.{no_truth}
 use Rattle.sync_types.specs.Boards.{is_this}
 use Rattle.sync_types.specs.declared.Item.{Item}
-use Rattle.zone_stretches.specs.Occurrences.{Occurrence}
-use Rattle.zone_stretches.specs.Spans.{Beginning, beginning_after, spans_from}
-use Rattle.zone_stretches.specs.Tenures.{Tenure, carry, changes_hands, counted, tenure_after, tenure_until, tenures_from}
+use Rattle.zone_stretches.specs.Occurrences.{OccurrenceView}
+use Rattle.zone_stretches.specs.Spans.{SpanStartView, beginning_after, spans_from}
+use Rattle.zone_stretches.specs.Tenures.{TenureView, carry, changes_hands, counted, tenure_after, tenure_until, tenures_from}
 
 -- ---- spans of so many items
 
@@ -48,15 +48,15 @@ drop_rest from n xs up = let all : from + (n - from) ≡ n = omega arith in drop
 -- ---- the items of events
 
 -- what the channel of an event did before it acted
-abbrev pub own_items : List (List Item) → Occurrence → ℕ
+abbrev pub own_items : List (List Item) → OccurrenceView → ℕ
 own_items items o = if o.name.go then 0 else length (slice_index_or items o.name.step [])
 
 -- the items of the spans of a channel, with these events to come
-abbrev pub weights : List (List Item) → ℕ → List Occurrence → List ℕ
+abbrev pub weights : List (List Item) → ℕ → List OccurrenceView → List ℕ
 weights items c [] = 0 ∷ []
 weights items c (o ∷ os) = if o.channel == c then own_items items o ∷ weights items c os else weights items c os
 
-pub weights_are : (items : List (List Item)) (c : ℕ) (begins : Beginning) (os : List Occurrence)
+pub weights_are : (items : List (List Item)) (c : ℕ) (begins : SpanStartView) (os : List OccurrenceView)
     → map (λ span. length span.items) (spans_from items begins (filter (λ o. o.channel == c) os)) ≡ weights items c os
 weights_are items c begins [] = refl
 weights_are items c begins (o ∷ os) = by_test (o.channel == c) (weights_are items c (beginning_after begins o) os) (weights_are items c begins os)
@@ -71,18 +71,18 @@ weights_are items c begins (o ∷ os) = by_test (o.channel == c) (weights_are it
     by_test true next same = rw (own o.name.go (slice_index_or items o.name.step []), next) refl
     by_test false next same = same
 
-weights_here : (items : List (List Item)) (c : ℕ) (o : Occurrence) (os : List Occurrence) → o.channel ≡ c → weights items c (o ∷ os) ≡ own_items items o ∷ weights items c os
+weights_here : (items : List (List Item)) (c : ℕ) (o : OccurrenceView) (os : List OccurrenceView) → o.channel ≡ c → weights items c (o ∷ os) ≡ own_items items o ∷ weights items c os
 weights_here items c o os same = rw (eq-eqb o.channel c same) refl
 
-weights_other : (items : List (List Item)) (c : ℕ) (o : Occurrence) (os : List Occurrence) → (o.channel == c) ≡ false → weights items c (o ∷ os) ≡ weights items c os
+weights_other : (items : List (List Item)) (c : ℕ) (o : OccurrenceView) (os : List OccurrenceView) → (o.channel == c) ≡ false → weights items c (o ∷ os) ≡ weights items c os
 weights_other items c o os other = rw other refl
 
 -- the next event of a channel
-abbrev first_cost : List (List Item) → ℕ → List Occurrence → ℕ
+abbrev first_cost : List (List Item) → ℕ → List OccurrenceView → ℕ
 first_cost items c [] = 0
 first_cost items c (o ∷ os) = if o.channel == c then suc (own_items items o) else first_cost items c os
 
-first_weight : (items : List (List Item)) (c : ℕ) (os : List Occurrence) → head_of (weights items c os) ≤ first_cost items c os
+first_weight : (items : List (List Item)) (c : ℕ) (os : List OccurrenceView) → head_of (weights items c os) ≤ first_cost items c os
 first_weight items c [] = omega arith
 first_weight items c (o ∷ os) = by_test (o.channel == c) (first_weight items c os)
   where
@@ -97,7 +97,7 @@ abbrev with_channel : (ℕ → Bool) → ℕ → ℕ → Bool
 with_channel live c d = if d == c then true else live d
 
 -- an event costs where the span that it ends may still serve; that which it begins may
-abbrev reserve : List (List Item) → (ℕ → Bool) → List Occurrence → ℕ
+abbrev reserve : List (List Item) → (ℕ → Bool) → List OccurrenceView → ℕ
 reserve items live [] = 0
 reserve items live (o ∷ os) = (if live o.channel then suc (own_items items o) else 0) + reserve items (with_channel live o.channel) os
 
@@ -117,7 +117,7 @@ with_wider live wide c wider d = by_test (d == c) (wider d)
     by_test true here on = refl
     by_test false here on = here on
 
-reserve_wider : (items : List (List Item)) (live wide : ℕ → Bool) (os : List Occurrence) → AreWider live wide → reserve items live os ≤ reserve items wide os
+reserve_wider : (items : List (List Item)) (live wide : ℕ → Bool) (os : List OccurrenceView) → AreWider live wide → reserve items live os ≤ reserve items wide os
 reserve_wider items live wide [] wider = omega arith
 reserve_wider items live wide (o ∷ os) wider =
     let here = charge_wider (suc (own_items items o)) (live o.channel) (wide o.channel) (wider o.channel) in
@@ -125,7 +125,7 @@ reserve_wider items live wide (o ∷ os) wider =
     omega (arith, here, rest)
 
 -- one channel more may cost its next event
-reserve_first : (items : List (List Item)) (live wide : ℕ → Bool) (c : ℕ) (os : List Occurrence) → AreWider live wide → live c ≡ false → wide c ≡ true
+reserve_first : (items : List (List Item)) (live wide : ℕ → Bool) (c : ℕ) (os : List OccurrenceView) → AreWider live wide → live c ≡ false → wide c ≡ true
     → reserve items live os + first_cost items c os ≤ reserve items wide os
 reserve_first items live wide c [] wider off on = omega arith
 reserve_first items live wide c (o ∷ os) wider off on = elim (cases_Bool (o.channel == c)) [
@@ -146,11 +146,11 @@ reserve_first items live wide c (o ∷ os) wider off on = elim (cases_Bool (o.ch
     turned m n off = elim (cases_Bool (m == n)) [ inl on ↦ no_truth (n == m) (eq-eqb n m (sym (eqb-true m n on))) off | inr same ↦ same ]
 
 -- all events
-abbrev pub events_cost : List (List Item) → List Occurrence → ℕ
+abbrev pub events_cost : List (List Item) → List OccurrenceView → ℕ
 events_cost items [] = 0
 events_cost items (o ∷ os) = suc (own_items items o) + events_cost items os
 
-reserve_within : (items : List (List Item)) (live : ℕ → Bool) (os : List Occurrence) → reserve items live os ≤ events_cost items os
+reserve_within : (items : List (List Item)) (live : ℕ → Bool) (os : List OccurrenceView) → reserve items live os ≤ events_cost items os
 reserve_within items live [] = omega arith
 reserve_within items live (o ∷ os) =
     let here = charge_wider (suc (own_items items o)) (live o.channel) true (λ on. refl) in
@@ -162,34 +162,34 @@ abbrev pub weights_between : List ℕ → ℕ → Option ℕ → List ℕ
 weights_between ws from None = drop from ws
 weights_between ws from (Some upto) = take (suc upto - from) (drop from ws)
 
-abbrev pub tenure_cost : (ℕ → List ℕ) → Tenure → Option ℕ → ℕ
+abbrev pub tenure_cost : (ℕ → List ℕ) → TenureView → Option ℕ → ℕ
 tenure_cost ws t None = 1
 tenure_cost ws t (Some c) = cost (weights_between (ws c) t.from t.upto)
 
-abbrev pub cost_of_all : (ℕ → List ℕ) → List Tenure → ℕ
+abbrev pub cost_of_all : (ℕ → List ℕ) → List TenureView → ℕ
 cost_of_all ws [] = 0
 cost_of_all ws (t ∷ ts) = tenure_cost ws t t.owner + cost_of_all ws ts
 
 module _ (items : List (List Item)) (ws : ℕ → List ℕ) where
   -- so many events of each channel have been, and these are to come
-  abbrev IsAt : (ℕ → ℕ) → List Occurrence → Type 0
+  abbrev IsAt : (ℕ → ℕ) → List OccurrenceView → Type 0
   IsAt counts os = (c : ℕ) → drop (counts c) (ws c) ≡ weights items c os
 
   -- a tenure that lasts, and has begun
-  record IsCurrent (counts : ℕ → ℕ) (t : Tenure) : Type 0 where
+  record IsCurrent (counts : ℕ → ℕ) (t : TenureView) : Type 0 where
     lasts : t.upto ≡ None
     begun : (c : ℕ) → t.owner ≡ Some c → t.from ≤ counts c
 
   -- the spans that have ended in it
-  abbrev past_cost : (ℕ → ℕ) → Tenure → Option ℕ → ℕ
+  abbrev past_cost : (ℕ → ℕ) → TenureView → Option ℕ → ℕ
   past_cost counts t None = 0
   past_cost counts t (Some c) = cost (take (counts c - t.from) (drop t.from (ws c)))
 
-  abbrev owner_cost : Option ℕ → List Occurrence → ℕ
+  abbrev owner_cost : Option ℕ → List OccurrenceView → ℕ
   owner_cost None os = 0
   owner_cost (Some c) os = first_cost items c os
 
-  next_at : (counts : ℕ → ℕ) (o : Occurrence) (os : List Occurrence) → IsAt counts (o ∷ os) → IsAt (counted counts o.channel) os
+  next_at : (counts : ℕ → ℕ) (o : OccurrenceView) (os : List OccurrenceView) → IsAt counts (o ∷ os) → IsAt (counted counts o.channel) os
   next_at counts o os at d = elim (cases_Bool (d == o.channel)) [
     | inl here ↦
         let same : o.channel ≡ d = sym (eqb-true d o.channel here) in
@@ -201,14 +201,14 @@ module _ (items : List (List Item)) (ws : ℕ → List ℕ) where
       turned m n off = elim (cases_Bool (m == n)) [ inl on ↦ no_truth (n == m) (eq-eqb n m (sym (eqb-true m n on))) off | inr same ↦ same ]
 
   -- one span more of a tenure
-  span_more : (counts : ℕ → ℕ) (os : List Occurrence) (from c : ℕ) → IsAt counts os → from ≤ counts c
+  span_more : (counts : ℕ → ℕ) (os : List OccurrenceView) (from c : ℕ) → IsAt counts os → from ≤ counts c
       → cost (take (suc (counts c) - from) (drop from (ws c))) ≤ cost (take (counts c - from) (drop from (ws c))) + suc (head_of (weights items c os))
   span_more counts os from c at up =
       let more : suc (counts c) - from ≡ suc (counts c - from) = omega arith in
       let left : drop (counts c - from) (drop from (ws c)) ≡ weights items c os = drop_rest from (counts c) (ws c) up ∙ at c in
       rw (more, sym left) (cost_more (counts c - from) (drop from (ws c)))
 
-  last_cost : (counts : ℕ → ℕ) (t : Tenure) → IsAt counts [] → IsCurrent counts t → tenure_cost ws t t.owner ≤ past_cost counts t t.owner + 1
+  last_cost : (counts : ℕ → ℕ) (t : TenureView) → IsAt counts [] → IsCurrent counts t → tenure_cost ws t t.owner ≤ past_cost counts t t.owner + 1
   last_cost counts t at current = by_owner t.owner refl
     where
       by_owner : (o : Option ℕ) → t.owner ≡ o → tenure_cost ws t o ≤ past_cost counts t o + 1
@@ -218,7 +218,7 @@ module _ (items : List (List Item)) (ws : ℕ → List ℕ) where
           let one : cost (drop (counts c - t.from) (drop t.from (ws c))) ≡ 1 = ap cost left in
           rw current.lasts (omega (arith, cost_parts (counts c - t.from) (drop t.from (ws c)), one))
 
-  until_cost : (counts : ℕ → ℕ) (t : Tenure) (o : Occurrence) (os : List Occurrence) → IsAt counts os → IsCurrent counts t
+  until_cost : (counts : ℕ → ℕ) (t : TenureView) (o : OccurrenceView) (os : List OccurrenceView) → IsAt counts os → IsCurrent counts t
       → tenure_cost ws (tenure_until counts t o) t.owner ≤ past_cost counts t t.owner + (owner_cost t.owner os + 1)
   until_cost counts t o os at current = by_owner t.owner refl
     where
@@ -226,7 +226,7 @@ module _ (items : List (List Item)) (ws : ℕ → List ℕ) where
       by_owner None is = omega arith
       by_owner (Some c) is = omega (arith, span_more counts os t.from c at (current.begun c is), first_weight items c os)
 
-  stay_cost : (counts : ℕ → ℕ) (t : Tenure) (o : Occurrence) (os : List Occurrence) → IsAt counts (o ∷ os) → IsCurrent counts t
+  stay_cost : (counts : ℕ → ℕ) (t : TenureView) (o : OccurrenceView) (os : List OccurrenceView) → IsAt counts (o ∷ os) → IsCurrent counts t
       → past_cost (counted counts o.channel) t t.owner ≤ past_cost counts t t.owner + cond (is_this t.owner o.channel) (suc (own_items items o)) 0
   stay_cost counts t o os at current = by_owner t.owner refl
     where
@@ -240,14 +240,14 @@ module _ (items : List (List Item)) (ws : ℕ → List ℕ) where
         | inr other ↦ rw other (omega arith)
       ]
 
-  stays_current : (counts : ℕ → ℕ) (t : Tenure) (d : ℕ) → IsCurrent counts t → IsCurrent (counted counts d) t
+  stays_current : (counts : ℕ → ℕ) (t : TenureView) (d : ℕ) → IsCurrent counts t → IsCurrent (counted counts d) t
   stays_current counts t d current = record { lasts = current.lasts; begun = λ c is. by_test (c == d) c (current.begun c is) }
     where
       by_test : (b : Bool) (c : ℕ) → t.from ≤ counts c → t.from ≤ cond b (suc (counts c)) (counts c)
       by_test true c up = omega arith
       by_test false c up = up
 
-  after_current : (counts : ℕ → ℕ) (zone : ZoneLine) (o : Occurrence) → IsCurrent (counted counts o.channel) (tenure_after zone counts o)
+  after_current : (counts : ℕ → ℕ) (zone : ZoneLine) (o : OccurrenceView) → IsCurrent (counted counts o.channel) (tenure_after zone counts o)
   after_current counts zone o = record { lasts = refl; begun = λ c is. by_takes (carry zone o.takes) c is }
     where
       by_takes : (b : Bool) (c : ℕ) → cond b (Some o.channel) None ≡ Some c → suc (counts o.channel) ≤ counted counts o.channel c
@@ -258,7 +258,7 @@ module _ (items : List (List Item)) (ws : ℕ → List ℕ) where
           rw here (omega arith)
       by_takes false c is = absurd cc
 
-  after_past : (counts : ℕ → ℕ) (zone : ZoneLine) (o : Occurrence) → past_cost (counted counts o.channel) (tenure_after zone counts o) (tenure_after zone counts o).owner ≡ 0
+  after_past : (counts : ℕ → ℕ) (zone : ZoneLine) (o : OccurrenceView) → past_cost (counted counts o.channel) (tenure_after zone counts o) (tenure_after zone counts o).owner ≡ 0
   after_past counts zone o = by_takes (carry zone o.takes)
     where
       by_takes : (b : Bool) → past_cost (counted counts o.channel) (tenure_after zone counts o) (cond b (Some o.channel) None) ≡ 0
@@ -269,14 +269,14 @@ module _ (items : List (List Item)) (ws : ℕ → List ℕ) where
       by_takes false = refl
 
   -- who holds the zone after an event is its channel, or nobody
-  after_owner : (zone : ZoneLine) (o : Occurrence) (d : ℕ) → is_this (cond (carry zone o.takes) (Some o.channel) None) d ≡ true → (d == o.channel) ≡ true
+  after_owner : (zone : ZoneLine) (o : OccurrenceView) (d : ℕ) → is_this (cond (carry zone o.takes) (Some o.channel) None) d ≡ true → (d == o.channel) ≡ true
   after_owner zone o d = by_takes (carry zone o.takes)
     where
       by_takes : (b : Bool) → is_this (cond b (Some o.channel) None) d ≡ true → (d == o.channel) ≡ true
       by_takes true on = eq-eqb d o.channel (sym (eqb-true o.channel d on))
       by_takes false on = no_truth false on refl
 
-  hands_cost : (next : ℕ → Bool) (o : Occurrence) (os : List Occurrence) (owner : Option ℕ) → ((d : ℕ) → next d ≡ true → (d == o.channel) ≡ true)
+  hands_cost : (next : ℕ → Bool) (o : OccurrenceView) (os : List OccurrenceView) (owner : Option ℕ) → ((d : ℕ) → next d ≡ true → (d == o.channel) ≡ true)
       → owner_cost owner (o ∷ os) + reserve items next os ≤ reserve items (is_this owner) (o ∷ os)
   hands_cost next o os None own = let rest = reserve_wider items next (with_channel (is_this None) o.channel) os (λ d on. rw (own d on) refl) in omega (arith, rest)
   hands_cost next o os (Some c) own = elim (cases_Bool (o.channel == c)) [
@@ -294,7 +294,7 @@ module _ (items : List (List Item)) (ws : ℕ → List ℕ) where
       turned : (m n : ℕ) → (n == m) ≡ false → (m == n) ≡ false
       turned m n off = elim (cases_Bool (m == n)) [ inl on ↦ no_truth (n == m) (eq-eqb n m (sym (eqb-true m n on))) off | inr same ↦ same ]
 
-  tenures_within : (zone : ZoneLine) (os : List Occurrence) (counts : ℕ → ℕ) (t : Tenure) → IsAt counts os → IsCurrent counts t
+  tenures_within : (zone : ZoneLine) (os : List OccurrenceView) (counts : ℕ → ℕ) (t : TenureView) → IsAt counts os → IsCurrent counts t
       → cost_of_all ws (tenures_from zone counts t os) ≤ past_cost counts t t.owner + (reserve items (is_this t.owner) os + suc (length os))
   tenures_within zone [] counts t at current = omega (arith, last_cost counts t at current)
   tenures_within zone (o ∷ os) counts t at current =
@@ -325,7 +325,7 @@ module _ (items : List (List Item)) (ws : ℕ → List ℕ) where
           with_more false q on = on
 
 -- the tenures of a zone cost at most all events, and once for each tenure
-pub tenures_cost : (items : List (List Item)) (zone : ZoneLine) (t : Tenure) (os : List Occurrence) → t.upto ≡ None → t.from ≡ 0
+pub tenures_cost : (items : List (List Item)) (zone : ZoneLine) (t : TenureView) (os : List OccurrenceView) → t.upto ≡ None → t.from ≡ 0
     → cost_of_all (λ c. weights items c os) (tenures_from zone (λ c. 0) t os) ≤ events_cost items os + suc (length os)
 tenures_cost items zone t os lasts first =
     let within = tenures_within items (λ c. weights items c os) zone os (λ c. 0) t (λ c. refl) (record { lasts = lasts; begun = λ c is. omega arith }) in

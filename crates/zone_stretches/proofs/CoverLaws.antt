@@ -6,14 +6,14 @@ use Rattle.std.proofs.lemmas.List.Elements.{All-nil, All-cons, All-append, All-m
 use Rattle.job_types.specs.Job.{JobView}
 use Rattle.job_types.specs.declared.job.ZoneLine.{ZoneLine}
 use Rattle.zone_stretches.proofs.StretchLaws.{HoldsOf, each_stretch, each_time}
-use Rattle.zone_stretches.specs.Occurrences.{Occurrence, occurrences_of}
+use Rattle.zone_stretches.specs.Occurrences.{OccurrenceView, occurrences_of}
 use Rattle.zone_stretches.specs.SoundStretches.{IsCoverBy, HasCover, BoxesHaveCovers}
-use Rattle.zone_stretches.specs.Spans.{Beginning, beginning_after, entry_of_beginning, first_beginning, span_to_end, span_until, spans_from, spans_of}
+use Rattle.zone_stretches.specs.Spans.{SpanStartView, beginning_after, entry_of_beginning, first_beginning, span_to_end, span_until, spans_from, spans_of}
 use Rattle.zone_stretches.specs.Stretches.{stretch_between, free_stretch, stretches_of_zone}
 use Rattle.zone_stretches.specs.Tenures.{tenures_of}
 use Rattle.zone_stretches.specs.ZoneBoxes.{IsFit, stand_after, sight_of, seen, PlaceBox, Opened, Shut, Waiting, Moving, closed, closed_before, next_open, walk, boxes_of, cover_during, shown_box}
-use Rattle.zone_stretches.specs.declared.sights.Sight.{Sight}
-use Rattle.zone_stretches.specs.declared.sights.Sight.TheVariants.{Nothing, Turns, Moves}
+use Rattle.zone_stretches.specs.declared.sights.ZoneEffect.{ZoneEffect}
+use Rattle.zone_stretches.specs.declared.sights.ZoneEffect.TheVariants.{Nothing, Turns, Moves}
 use Rattle.order_clocks.specs.Clocked.{moves_in}
 use Rattle.swept_boxes.specs.declared.Box3.{Box3}
 use Rattle.sync_types.specs.Boards.{Board}
@@ -26,7 +26,7 @@ use Rattle.sync_types.specs.declared.runs.EventId.{EventId}
 
 -- ---- what is seen as a motion
 
-abbrev is_motion : Sight → Bool
+abbrev is_motion : ZoneEffect → Bool
 is_motion Moves = true
 is_motion other = false
 
@@ -63,7 +63,7 @@ closed_named all to (Waiting from line at) named = All-cons (IsNamedBox all) (re
 closed_named all to (Moving from place item at) named =
     All-cons (IsNamedBox all) (record { from = from; to = to; motion = Some (place, item); line = item.line; at = at }) [] named (All-nil (IsNamedBox all))
 
-closed_before_named : (all : List Item) (to : ℕ) (o : Opened) (s : Sight) → IsNamedOpen all o → All (IsNamedBox all) (closed_before to o s)
+closed_before_named : (all : List Item) (to : ℕ) (o : Opened) (s : ZoneEffect) → IsNamedOpen all o → All (IsNamedBox all) (closed_before to o s)
 closed_before_named all to Shut Nothing named = All-nil (IsNamedBox all)
 closed_before_named all to Shut (Turns true) named = All-nil (IsNamedBox all)
 closed_before_named all to Shut (Turns false) named = closed_named all to Shut named
@@ -82,7 +82,7 @@ is_named zone all place item there is =
     let less : suc place - 1 ≡ place = omega arith in
     (omega arith, ap (slice_get all) less ∙ there, motion_seen zone item is)
 
-next_named : (zone : ZoneLine) (all : List Item) (place : ℕ) (at : ℕ → ℤ) (item : Item) (o : Opened) (s : Sight) → seen zone item ≡ s → slice_get all place ≡ Some item → IsNamedOpen all o
+next_named : (zone : ZoneLine) (all : List Item) (place : ℕ) (at : ℕ → ℤ) (item : Item) (o : Opened) (s : ZoneEffect) → seen zone item ≡ s → slice_get all place ≡ Some item → IsNamedOpen all o
     → IsNamedOpen all (next_open (suc place) at item o s)
 next_named zone all place at item Shut Nothing is there named = tt
 next_named zone all place at item Shut (Turns true) is there named = tt
@@ -134,7 +134,7 @@ of_none margin zone items cover (Some place) covered = let bad : None ≡ Some c
 abbrev pub HasItems : List (List Item) → ℕ → List Item → Type 0
 HasItems all entry items = (items ≡ []) ⊎ (items ≡ slice_index_or all entry [])
 
-stretch_covered : (job : JobView) (run : RunView) (zone : ZoneLine) (channel : Option ℕ) (begins : Beginning) (last : Option EventId) (entry : ℕ) (items : List Item) → HasItems run.items entry items
+stretch_covered : (job : JobView) (run : RunView) (zone : ZoneLine) (channel : Option ℕ) (begins : SpanStartView) (last : Option EventId) (entry : ℕ) (items : List Item) → HasItems run.items entry items
     → All (HasCover job run zone (stretch_between job zone channel begins last entry items)) (stretch_between job zone channel begins last entry items).boxes
 stretch_covered job run zone channel begins last entry items has =
     All-map (HasCover job run zone (stretch_between job zone channel begins last entry items)) (shown_box job.margin zone) (boxes_of zone (begins.on zone.zone) begins.line begins.at items)
@@ -149,7 +149,7 @@ stretch_covered job run zone channel begins last entry items has =
 
 -- ---- the spans
 
-span_items : (all : List (List Item)) (begins : Beginning) (os : List Occurrence) → All (λ span. HasItems all span.entry span.items) (spans_from all begins os)
+span_items : (all : List (List Item)) (begins : SpanStartView) (os : List OccurrenceView) → All (λ span. HasItems all span.entry span.items) (spans_from all begins os)
 span_items all begins [] = All-cons (λ span. HasItems all span.entry span.items) (span_to_end begins) [] (inl refl) (All-nil (λ span. HasItems all span.entry span.items))
 span_items all begins (o ∷ os) =
     All-cons (λ span. HasItems all span.entry span.items) (span_until all begins o.name) (spans_from all (beginning_after begins o) os) (by_go o.name.go) (span_items all (beginning_after begins o) os)
@@ -162,11 +162,11 @@ pub all_alike : {X : Type 0} (P : X → Type 0) → ((x : X) → P x) → (xs : 
 all_alike P each [] = All-nil P
 all_alike P each (x ∷ xs) = All-cons P x xs (each x) (all_alike P each xs)
 
-pub spans_have_items : (job : JobView) (items : List (List Item)) (occurrences : List Occurrence) (c : ℕ) → All (λ span. HasItems items span.entry span.items) (spans_of job items occurrences c)
+pub spans_have_items : (job : JobView) (items : List (List Item)) (occurrences : List OccurrenceView) (c : ℕ) → All (λ span. HasItems items span.entry span.items) (spans_of job items occurrences c)
 unfolding spans_of
 spans_have_items job items occurrences c = span_items items (first_beginning job c) _
 
-zone_covered : (job : JobView) (run : RunView) (occurrences : List Occurrence) (zone : ZoneLine)
+zone_covered : (job : JobView) (run : RunView) (occurrences : List OccurrenceView) (zone : ZoneLine)
     → All (λ stretch. All (HasCover job run zone stretch) stretch.boxes) (stretches_of_zone job run.items occurrences zone)
 zone_covered job run occurrences zone =
     each_stretch job run.items occurrences zone (λ stretch. All (HasCover job run zone stretch) stretch.boxes)

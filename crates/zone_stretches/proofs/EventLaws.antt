@@ -16,7 +16,7 @@ use Rattle.order_clocks.proofs.MemberLaws.{in_append, in_map}
 use Rattle.order_clocks.proofs.ReadLaws.{started_waits}
 use Rattle.order_clocks.proofs.TellLaws.{goes_from, only_one}
 use Rattle.zone_stretches.proofs.NameLaws.{in_mapped, in_range, listed, low_in_step}
-use Rattle.zone_stretches.specs.Occurrences.{Occurrence, act_of, going_on_of, occurrences_in, occurrences_from, occurrences_of}
+use Rattle.zone_stretches.specs.Occurrences.{OccurrenceView, act_of, going_on_of, occurrences_in, occurrences_from, occurrences_of}
 use Rattle.sync_types.proofs.BoardTests.{no_truth}
 use Rattle.sync_types.specs.BoardActions.{after_own_part, channels_started}
 use Rattle.sync_types.specs.BoardAlarms.{alarm_of}
@@ -32,11 +32,11 @@ use Rattle.sync_types.specs.declared.runs.EventId.{EventId}
 -- ---- what an event tells
 
 -- an event by the channel that it is of
-abbrev pub own_name : Occurrence → EventId
+abbrev pub own_name : OccurrenceView → EventId
 own_name o = record { step = o.name.step; channel = o.channel; go = o.name.go }
 
 -- an event is that of its channel; an act lets go what its step gives, and takes nothing; one that goes on lets nothing go, and rests on what it takes
-pub record IsTold (b : Board) (moves : List Move) (o : Occurrence) : Type 0 where
+pub record IsTold (b : Board) (moves : List Move) (o : OccurrenceView) : Type 0 where
   pub own : AreOne b moves o.name (own_name o)
   pub frees : o.name.go ≡ false → (x : ℕ) → gives (happening_at b moves o.name.step) (Freed x) ≡ o.frees x
   pub keeps : o.name.go ≡ true → (x : ℕ) → o.frees x ≡ false
@@ -44,10 +44,10 @@ pub record IsTold (b : Board) (moves : List Move) (o : Occurrence) : Type 0 wher
   pub rests : (x : ℕ) → o.takes x ≡ true → IsIn (Freed x) (rests_on (going_of (happening_at b moves o.name.step).goings o.channel))
 
 -- the same event, as one of another step
-abbrev at_step : ℕ → Occurrence → Occurrence
+abbrev at_step : ℕ → OccurrenceView → OccurrenceView
 at_step k o = record o { name = record { step = k; channel = o.name.channel; go = o.name.go } }
 
-abbrev ToldFrom : Board → List Move → ℕ → Occurrence → Type 0
+abbrev ToldFrom : Board → List Move → ℕ → OccurrenceView → Type 0
 ToldFrom b moves i o = (k : ℕ) × (o.name.step ≡ i + k) × IsTold b moves (at_step k o)
 
 act_told : (b : Board) (m : Move) (ms : List Move) → IsTold b (m ∷ ms) (act_of 0 m.step (happening_of b m.channel m.step))
@@ -112,7 +112,7 @@ module _ (b : Board) (m : Move) (ms : List Move) where
   later_joined k c d g h true joined = joined
   later_joined k c d g h false joined = joined
 
-  later_told : (k : ℕ) (o : Occurrence) → IsTold (after_step b m.channel m.step) ms (at_step k o) → IsTold b (m ∷ ms) (at_step (suc k) o)
+  later_told : (k : ℕ) (o : OccurrenceView) → IsTold (after_step b m.channel m.step) ms (at_step k o) → IsTold b (m ∷ ms) (at_step (suc k) o)
   later_told k o told = record {
     own = record {
       first = later_there k o.name.channel o.name.go o.name.go told.own.first;
@@ -161,11 +161,11 @@ all_told b moves running =
 -- ---- steps
 
 -- each step has one act, before those that go on in it
-abbrev pub InSteps : ℕ → List Occurrence → Type 0
+abbrev pub InSteps : ℕ → List OccurrenceView → Type 0
 InSteps n [] = ⊤
 InSteps n (o ∷ os) = ((o.name.go ≡ false) × (o.name.step ≡ n) × InSteps (suc n) os) ⊎ ((o.name.go ≡ true) × (suc o.name.step ≡ n) × InSteps n os)
 
-goings_steps : (i : ℕ) (all goings : List Going) (rest : List Occurrence) → InSteps (suc i) rest → InSteps (suc i) (map (going_on_of i all) goings ++ rest)
+goings_steps : (i : ℕ) (all goings : List Going) (rest : List OccurrenceView) → InSteps (suc i) rest → InSteps (suc i) (map (going_on_of i all) goings ++ rest)
 goings_steps i all [] rest steps = steps
 goings_steps i all (g ∷ goings) rest steps = inr (refl, refl, goings_steps i all goings rest steps)
 
@@ -281,7 +281,7 @@ starts_once None other = tt
 -- ---- moments
 
 -- events of one channel come one after another
-abbrev pub AreRising : List Occurrence → Type 0
+abbrev pub AreRising : List OccurrenceView → Type 0
 AreRising [] = ⊤
 AreRising (o ∷ os) = All (λ p. p.channel ≡ o.channel → moment (own_name o) < moment (own_name p)) os × AreRising os
 
@@ -302,7 +302,7 @@ steps_from (m ∷ ms) b i =
     each [] = All-nil (λ g. 2 * i ≤ moment (own_name (going_on_of i (goings_in_step b m.channel m.step) g)))
     each (g ∷ gs) = All-cons (λ g. 2 * i ≤ moment (own_name (going_on_of i (goings_in_step b m.channel m.step) g))) g gs (omega arith) (each gs)
 
-goings_rising : (i : ℕ) (all goings : List Going) (rest : List Occurrence) → Once goings → All (λ p. 2 * suc i ≤ moment (own_name p)) rest → AreRising rest
+goings_rising : (i : ℕ) (all goings : List Going) (rest : List OccurrenceView) → Once goings → All (λ p. 2 * suc i ≤ moment (own_name p)) rest → AreRising rest
     → AreRising (map (going_on_of i all) goings ++ rest)
 goings_rising i all [] rest once later rising = rising
 goings_rising i all (g ∷ goings) rest once later rising = (
@@ -317,7 +317,7 @@ goings_rising i all (g ∷ goings) rest once later rising = (
     others (h ∷ hs) apart =
         All-cons (λ h. h.channel ≡ g.channel → 2 * i + 1 < 2 * i + 1) h hs (λ same. absurd (apart h (inl refl) (sym same))) (others hs (λ k within. apart k (inr within)))
 
-act_first : (i c : ℕ) (all goings : List Going) (rest : List Occurrence) → All (λ p. 2 * suc i ≤ moment (own_name p)) rest
+act_first : (i c : ℕ) (all goings : List Going) (rest : List OccurrenceView) → All (λ p. 2 * suc i ≤ moment (own_name p)) rest
     → All (λ p. p.channel ≡ c → 2 * i + 0 < moment (own_name p)) (map (going_on_of i all) goings ++ rest)
 act_first i c all [] rest later = All-weaker (λ p. 2 * suc i ≤ moment (own_name p)) (λ p. p.channel ≡ c → 2 * i + 0 < moment (own_name p)) (λ p up same. omega (arith, up)) rest later
 act_first i c all (g ∷ goings) rest later =
@@ -327,7 +327,7 @@ pub rising : (ms : List Move) (b : Board) (i : ℕ) → AreOfRunning b ms → Ar
 rising [] b i running = tt
 rising (m ∷ ms) b i running =
     let goings : List Going = goings_in_step b m.channel m.step in
-    let rest : List Occurrence = occurrences_from (after_step b m.channel m.step) (suc i) ms in
+    let rest : List OccurrenceView = occurrences_from (after_step b m.channel m.step) (suc i) ms in
     let later = steps_from ms (after_step b m.channel m.step) (suc i) in (
       act_first i m.channel goings goings rest later,
       goings_rising i goings goings rest

@@ -12,7 +12,7 @@ use Rattle.job_types.specs.Zones.{has_axis, is_carrier}
 use Rattle.job_types.specs.declared.job.Side.{Side}
 use Rattle.job_types.specs.declared.job.ZoneLine.{ZoneLine}
 use Rattle.order_clocks.specs.Happenings.{axes_freed, happening_of}
-use Rattle.zone_stretches.specs.Occurrences.{Occurrence, act_of, going_on_of, occurrences_in, occurrences_from}
+use Rattle.zone_stretches.specs.Occurrences.{OccurrenceView, act_of, going_on_of, occurrences_in, occurrences_from}
 use Rattle.zone_stretches.specs.Tenures.{carry, changes_hands, is_carried_by}
 use Rattle.sync_types.proofs.BoardTests.{first_passes, no_truth, passes, not_not, some_pass}
 use Rattle.sync_types.proofs.TakenAxes.{taken_is_free}
@@ -106,25 +106,25 @@ carries_alike b zone xs for =
 -- ---- hands
 
 -- who holds the zone after an event
-abbrev pub owner_next : ZoneLine → Option ℕ → Occurrence → Option ℕ
+abbrev pub owner_next : ZoneLine → Option ℕ → OccurrenceView → Option ℕ
 owner_next zone owner o = cond (changes_hands zone o) (cond (carry zone o.takes) (Some o.channel) None) owner
 
-abbrev pub owners_next : ZoneLine → Option ℕ → List Occurrence → Option ℕ
+abbrev pub owners_next : ZoneLine → Option ℕ → List OccurrenceView → Option ℕ
 owners_next zone owner [] = owner
 owners_next zone owner (o ∷ os) = owners_next zone (owner_next zone owner o) os
 
 -- who lets axes of the zone go holds it then, and lets all go; and nobody holds it where they are taken
-abbrev pub HandsAre : ZoneLine → Option ℕ → List Occurrence → Type 0
+abbrev pub HandsAre : ZoneLine → Option ℕ → List OccurrenceView → Type 0
 HandsAre zone owner [] = ⊤
 HandsAre zone owner (o ∷ os) =
     (carry zone o.frees ≡ true → owner ≡ Some o.channel) × (carry zone o.frees ≡ true → (x : ℕ) → has_axis zone x ≡ true → o.frees x ≡ true) × (carry zone o.takes ≡ true → owner ≡ None)
     × HandsAre zone (owner_next zone owner o) os
 
-hands-append : (zone : ZoneLine) (owner : Option ℕ) (os ps : List Occurrence) → HandsAre zone owner os → HandsAre zone (owners_next zone owner os) ps → HandsAre zone owner (os ++ ps)
+hands-append : (zone : ZoneLine) (owner : Option ℕ) (os ps : List OccurrenceView) → HandsAre zone owner os → HandsAre zone (owners_next zone owner os) ps → HandsAre zone owner (os ++ ps)
 hands-append zone owner [] ps hands rest = rest
 hands-append zone owner (o ∷ os) ps hands rest = (hands.0, hands.1, hands.2, hands-append zone (owner_next zone owner o) os ps hands.3 rest)
 
-pub owners-append : (zone : ZoneLine) (owner : Option ℕ) (os ps : List Occurrence) → owners_next zone owner (os ++ ps) ≡ owners_next zone (owners_next zone owner os) ps
+pub owners-append : (zone : ZoneLine) (owner : Option ℕ) (os ps : List OccurrenceView) → owners_next zone owner (os ++ ps) ≡ owners_next zone (owners_next zone owner os) ps
 owners-append zone owner [] ps = refl
 owners-append zone owner (o ∷ os) ps = owners-append zone (owner_next zone owner o) os ps
 
@@ -271,16 +271,16 @@ goings_hands b starts zone i all zones for =
     let one = bare_hands zone (b.holder zone.zone) i all (going_of_start b) starts (λ c. refl) in
     let two = bare_hands zone (b.holder zone.zone) i all (going_at_once b) (goers_at_once b) (λ c. refl) in
     let three = takings_hands CHANNEL_LIMIT (after_goes b) zone i all (zones_goes b zones) for in
-    let started : List Occurrence = map (going_on_of i all) (map (going_of_start b) starts) in
-    let at_once : List Occurrence = map (going_on_of i all) (map (going_at_once b) (goers_at_once b)) in
-    let takers : List Occurrence = map (going_on_of i all) (all_takings (after_goes b)).goings in
+    let started : List OccurrenceView = map (going_on_of i all) (map (going_of_start b) starts) in
+    let at_once : List OccurrenceView = map (going_on_of i all) (map (going_at_once b) (goers_at_once b)) in
+    let takers : List OccurrenceView = map (going_on_of i all) (all_takings (after_goes b)).goings in
     let parts : map (going_on_of i all) (goings_on b starts) ≡ started ++ (at_once ++ takers) =
     map-append (going_on_of i all) (map (going_of_start b) starts) (map (going_at_once b) (goers_at_once b) ++ (all_takings (after_goes b)).goings)
-    ∙ ap (λ (os : List Occurrence). started ++ os) (map-append (going_on_of i all) (map (going_at_once b) (goers_at_once b)) (all_takings (after_goes b)).goings) in
+    ∙ ap (λ (os : List OccurrenceView). started ++ os) (map-append (going_on_of i all) (map (going_at_once b) (goers_at_once b)) (all_takings (after_goes b)).goings) in
     let later : HandsAre zone (b.holder zone.zone) (at_once ++ takers) =
     hands-append zone (b.holder zone.zone) at_once takers two.0 (subst (λ (p : Option ℕ). HandsAre zone p takers) (sym two.1) three.hands) in
     record {
-      hands = subst (λ (os : List Occurrence). HandsAre zone (b.holder zone.zone) os) (sym parts)
+      hands = subst (λ (os : List OccurrenceView). HandsAre zone (b.holder zone.zone) os) (sym parts)
           (hands-append zone (b.holder zone.zone) started (at_once ++ takers) one.0 (subst (λ (p : Option ℕ). HandsAre zone p (at_once ++ takers)) (sym one.1) later));
       holder = ap (owners_next zone (b.holder zone.zone)) parts
           ∙ owners-append zone (b.holder zone.zone) started (at_once ++ takers)

@@ -16,11 +16,11 @@ use Rattle.order_clocks.proofs.DepartLaws.{takings_take}
 use Rattle.order_clocks.proofs.GroupLaws.{chained_from, chained_to}
 use Rattle.order_clocks.proofs.MemberLaws.{in_append}
 use Rattle.zone_stretches.proofs.StretchLaws.{HoldsOf, each_stretch, each_time}
-use Rattle.zone_stretches.specs.Occurrences.{Occurrence, act_of, going_on_of, lowest_of_event, occurrences_in, occurrences_from, occurrences_of}
+use Rattle.zone_stretches.specs.Occurrences.{OccurrenceView, act_of, going_on_of, lowest_of_event, occurrences_in, occurrences_from, occurrences_of}
 use Rattle.zone_stretches.specs.SoundStretches.{HasLowNames, EndsAreLowestNames}
-use Rattle.zone_stretches.specs.Spans.{Beginning, beginning_after, first_beginning, span_to_end, span_until, spans_from, spans_of}
+use Rattle.zone_stretches.specs.Spans.{SpanStartView, beginning_after, first_beginning, span_to_end, span_until, spans_from, spans_of}
 use Rattle.zone_stretches.specs.Stretches.{free_stretch, stretches_of_zone}
-use Rattle.zone_stretches.specs.Tenures.{Tenure, changes_hands, counted, first_tenure, tenure_after, tenure_until, tenures_from, tenures_of}
+use Rattle.zone_stretches.specs.Tenures.{TenureView, changes_hands, counted, first_tenure, tenure_after, tenure_until, tenures_from, tenures_of}
 use Rattle.sync_types.proofs.BoardTests.{no_truth, first_passes}
 use Rattle.sync_types.specs.BoardActions.{after_own_part, channels_started}
 use Rattle.sync_types.specs.BoardAlarms.{alarm_of}
@@ -307,7 +307,7 @@ names_from (m ∷ ms) b i =
         (0, (let same : i ≡ i + 0 = omega arith in same), going_named b m ms g.channel (listed (goings_in_step b m.channel m.step) g (within g (inl refl))))
         (each_going gs (λ h there. within h (inr there)))
 
-abbrev pub AreNamed : Board → List Move → List Occurrence → Type 0
+abbrev pub AreNamed : Board → List Move → List OccurrenceView → Type 0
 AreNamed b moves os = All (λ o. IsLowestName b moves o.name) os
 
 -- each event of a run has its lowest name
@@ -321,11 +321,11 @@ occurrences_named b moves =
 
 -- ---- spans, tenures and stretches begin and end with them
 
-record HasNames (b : Board) (moves : List Move) (begins : Beginning) (until : Option EventId) : Type 0 where
+record HasNames (b : Board) (moves : List Move) (begins : SpanStartView) (until : Option EventId) : Type 0 where
   first : IfSome begins.first (IsLowestName b moves)
   last : IfSome until (IsLowestName b moves)
 
-spans_named : (b : Board) (moves : List Move) (items : List (List Item)) (begins : Beginning) (os : List Occurrence) → IfSome begins.first (IsLowestName b moves) → AreNamed b moves os
+spans_named : (b : Board) (moves : List Move) (items : List (List Item)) (begins : SpanStartView) (os : List OccurrenceView) → IfSome begins.first (IsLowestName b moves) → AreNamed b moves os
     → All (λ span. HasNames b moves span.begins span.last) (spans_from items begins os)
 spans_named b moves items begins [] first named =
     All-cons (λ span. HasNames b moves span.begins span.last) (span_to_end begins) [] (record { first = first; last = tt }) (All-nil (λ span. HasNames b moves span.begins span.last))
@@ -334,7 +334,7 @@ spans_named b moves items begins (o ∷ os) first named =
     All-cons (λ span. HasNames b moves span.begins span.last) (span_until items begins o.name) (spans_from items (beginning_after begins o) os) (record { first = first; last = here })
     (spans_named b moves items (beginning_after begins o) os here (All-tail (λ o. IsLowestName b moves o.name) o os named))
 
-tenures_named : (b : Board) (moves : List Move) (zone : ZoneLine) (counts : ℕ → ℕ) (t : Tenure) (os : List Occurrence) → HasNames b moves t.begins t.last → AreNamed b moves os
+tenures_named : (b : Board) (moves : List Move) (zone : ZoneLine) (counts : ℕ → ℕ) (t : TenureView) (os : List OccurrenceView) → HasNames b moves t.begins t.last → AreNamed b moves os
     → All (λ t. HasNames b moves t.begins t.last) (tenures_from zone counts t os)
 tenures_named b moves zone counts t [] names named = All-cons (λ t. HasNames b moves t.begins t.last) t [] names (All-nil (λ t. HasNames b moves t.begins t.last))
 tenures_named b moves zone counts t (o ∷ os) names named =

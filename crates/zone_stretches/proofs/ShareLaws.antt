@@ -13,13 +13,13 @@ use Rattle.sync_types.specs.declared.runs.EventId.{EventId}
 use Rattle.zone_stretches.proofs.CoverLaws.{HasItems, all_alike, spans_have_items}
 use Rattle.zone_stretches.proofs.StretchLaws.{HoldsOf, each_stretch, each_time}
 use Rattle.zone_stretches.specs.ActiveParts.{ZoneSpan, is_on_at, IsMotionAt, IsLineAt, stand_after_all, stand_before, IsActivePart, IsPartBox, does_hold, DoAscend, ShareOutPlaces, boxes_in, HasSpan, StretchesShareOutPlaces}
-use Rattle.zone_stretches.specs.Occurrences.{Occurrence, occurrences_of}
-use Rattle.zone_stretches.specs.Spans.{Beginning, entry_of_beginning, spans_of}
+use Rattle.zone_stretches.specs.Occurrences.{OccurrenceView, occurrences_of}
+use Rattle.zone_stretches.specs.Spans.{SpanStartView, entry_of_beginning, spans_of}
 use Rattle.zone_stretches.specs.Stretches.{free_stretch, stretch_between, stretches_of_zone}
 use Rattle.zone_stretches.specs.Tenures.{tenures_of}
 use Rattle.zone_stretches.specs.ZoneBoxes.{stand_after, seen, turned, on_after, PlaceBox, Opened, Shut, Waiting, Moving, closed, closed_before, next_open, walk, boxes_of}
-use Rattle.zone_stretches.specs.declared.sights.Sight.{Sight}
-use Rattle.zone_stretches.specs.declared.sights.Sight.TheVariants.{Nothing, Turns, Moves}
+use Rattle.zone_stretches.specs.declared.sights.ZoneEffect.{ZoneEffect}
+use Rattle.zone_stretches.specs.declared.sights.ZoneEffect.TheVariants.{Nothing, Turns, Moves}
 
 -- ---- what is open
 
@@ -34,7 +34,7 @@ abbrev pub is_open : Opened → Bool
 is_open Shut = false
 is_open other = true
 
-pub next_from : (place : ℕ) (at : ℕ → ℤ) (item : Item) (o : Opened) (s : Sight) → from_of o ≤ place → from_of (next_open (suc place) at item o s) ≤ suc place
+pub next_from : (place : ℕ) (at : ℕ → ℤ) (item : Item) (o : Opened) (s : ZoneEffect) → from_of o ≤ place → from_of (next_open (suc place) at item o s) ≤ suc place
 next_from place at item Shut Nothing low = omega arith
 next_from place at item Shut (Turns true) low = omega arith
 next_from place at item Shut (Turns false) low = omega arith
@@ -48,7 +48,7 @@ next_from place at item (Moving from of before began) (Turns true) low = omega a
 next_from place at item (Moving from of before began) (Turns false) low = omega arith
 next_from place at item (Moving from of before began) Moves low = omega arith
 
-pub next_is_open : (place : ℕ) (at : ℕ → ℤ) (item : Item) (o : Opened) (s : Sight) → is_open (next_open (suc place) at item o s) ≡ turned (is_open o) s
+pub next_is_open : (place : ℕ) (at : ℕ → ℤ) (item : Item) (o : Opened) (s : ZoneEffect) → is_open (next_open (suc place) at item o s) ≡ turned (is_open o) s
 next_is_open place at item Shut Nothing = refl
 next_is_open place at item Shut (Turns true) = refl
 next_is_open place at item Shut (Turns false) = refl
@@ -99,7 +99,7 @@ closed_past k to Shut past = refl
 closed_past k to (Waiting from line began) past = zero-add (cond (nat_le from k && nat_le k to) 1 0) ∙ past_last (nat_le from k) (nat_le k to) (lt-leb k to past)
 closed_past k to (Moving from of item began) past = zero-add (cond (nat_le from k && nat_le k to) 1 0) ∙ past_last (nat_le from k) (nat_le k to) (lt-leb k to past)
 
-before_past : (k to : ℕ) (o : Opened) (s : Sight) → to < k → count k (closed_before to o s) ≡ 0
+before_past : (k to : ℕ) (o : Opened) (s : ZoneEffect) → to < k → count k (closed_before to o s) ≡ 0
 before_past k to Shut Nothing past = refl
 before_past k to Shut (Turns true) past = refl
 before_past k to Shut (Turns false) past = refl
@@ -132,7 +132,7 @@ count_there zone k place o at (item ∷ items) high =
         let rest = later o' in
         omega (arith, whole, own, rest, none)
 
-    by_sight : (o : Opened) (s : Sight) → Later
+    by_sight : (o : Opened) (s : ZoneEffect) → Later
         → count k (closed_before place o s ++ walk zone (suc place) (next_open (suc place) at item o s) (stand_after item at) items) ≡ held k o
     by_sight Shut Nothing later = later Shut
     by_sight Shut (Turns true) later = later (Waiting (suc place) item.line at) ∙ not_yet
@@ -225,7 +225,7 @@ walk_ascends zone low place o at (item ∷ items) begins =
     Later : Type 0
     Later = (low' : ℕ) (o' : Opened) → BeginsPast low' (suc place) o' → DoAscend low' (walk zone (suc place) o' (stand_after item at) items)
 
-    by_sight : (o : Opened) (s : Sight) → BeginsPast low place o → Later
+    by_sight : (o : Opened) (s : ZoneEffect) → BeginsPast low place o → Later
         → DoAscend low (closed_before place o s ++ walk zone (suc place) (next_open (suc place) at item o s) (stand_after item at) items)
     by_sight Shut Nothing begins later = later low Shut (omega (arith, begins))
     by_sight Shut (Turns true) begins later = later low (Waiting (suc place) item.line at) (begins, omega arith)
@@ -283,11 +283,11 @@ stand_step (first ∷ items) (suc n) item at is = stand_step items n item (stand
 
 -- ---- a motion with an axis of the zone
 
-unfoldable pub is_motion : Sight → Bool
+unfoldable pub is_motion : ZoneEffect → Bool
 is_motion Moves = true
 is_motion other = false
 
-no_motion : (s : Sight) → is_motion s ≡ false → s ≡ Moves → ⊥
+no_motion : (s : ZoneEffect) → is_motion s ≡ false → s ≡ Moves → ⊥
 unfolding is_motion
 no_motion s still e = let moves : is_motion s ≡ true = ap is_motion e in absurd cc
 
@@ -526,10 +526,10 @@ module _ (span : ZoneSpan) where
   -- ---- one item
 
   module _ (place : ℕ) (item : Item) (there : slice_get span.items place ≡ Some item) where
-    turns : (s : Sight) → seen span.zone item ≡ s → (b : Bool) → is_on_at span place ≡ b → is_on_at span (suc place) ≡ turned b s
+    turns : (s : ZoneEffect) → seen span.zone item ≡ s → (b : Bool) → is_on_at span place ≡ b → is_on_at span (suc place) ≡ turned b s
     turns s is b on = on_next place item there ∙ ap (λ (c : Bool). turned c (seen span.zone item)) on ∙ ap (turned b) is
 
-    no_motion_there : (s : Sight) → seen span.zone item ≡ s → is_motion s ≡ false → (other : Item) → IsMotionAt span (suc place) other → ⊥
+    no_motion_there : (s : ZoneEffect) → seen span.zone item ≡ s → is_motion s ≡ false → (other : Item) → IsMotionAt span (suc place) other → ⊥
     no_motion_there s is still other motion = no_motion s still (sym is ∙ sees_motion place item other there motion)
 
     stands_there : (at : ℕ → ℤ) → at ≡ stand_after_all (take place span.items) span.at → at ≡ stand_before span (suc place)
@@ -548,7 +548,7 @@ module _ (span : ZoneSpan) where
       stands = stands_there at stands;
     }
 
-    waits_on : (from line : ℕ) (began : ℕ → ℤ) (s : Sight) → seen span.zone item ≡ s → is_motion s ≡ false → turned true s ≡ true
+    waits_on : (from line : ℕ) (began : ℕ → ℤ) (s : ZoneEffect) → seen span.zone item ≡ s → is_motion s ≡ false → turned true s ≡ true
         → WaitingRow from line place began → WaitingRow from line (suc place) began
     waits_on from line began s is still stays waits =
         let low = waits.low in
@@ -579,7 +579,7 @@ module _ (span : ZoneSpan) where
         by_order other later from_low high motion (inl past) = omega (arith, past, high)
         by_order other later from_low high motion (inr upto) = absurd (waits.still other later from_low upto motion)
 
-    moves_on : (from of : ℕ) (before : Item) (began : ℕ → ℤ) (s : Sight) → seen span.zone item ≡ s → is_motion s ≡ false → turned true s ≡ true
+    moves_on : (from of : ℕ) (before : Item) (began : ℕ → ℤ) (s : ZoneEffect) → seen span.zone item ≡ s → is_motion s ≡ false → turned true s ≡ true
         → MovingRow from of place before began → MovingRow from of (suc place) before began
     moves_on from of before began s is still stays moves =
         let low = moves.low in
@@ -613,7 +613,7 @@ module _ (span : ZoneSpan) where
     }
 
     -- the boxes that end before the item's place, and those to come
-    walk_step : (o : Opened) (s : Sight) (at : ℕ → ℤ) (items : List Item) → seen span.zone item ≡ s → at ≡ stand_after_all (take place span.items) span.at → IsOpenAt place o
+    walk_step : (o : Opened) (s : ZoneEffect) (at : ℕ → ℤ) (items : List Item) → seen span.zone item ≡ s → at ≡ stand_after_all (take place span.items) span.at → IsOpenAt place o
         → ((o' : Opened) → IsOpenAt (suc place) o' → All (IsPartBox span) (walk span.zone (suc place) o' (stand_after item at) items))
         → All (IsPartBox span) (closed_before place o s ++ walk span.zone (suc place) (next_open (suc place) at item o s) (stand_after item at) items)
     unfolding is_motion
@@ -679,7 +679,7 @@ boxes_share_out_places span = record { one = one_holds span; parts = boxes_are_s
 
 -- ---- stretches
 
-stretch_has_span : (job : JobView) (run : RunView) (zone : ZoneLine) (channel : Option ℕ) (begins : Beginning) (last : Option EventId) (entry : ℕ) (items : List Item) → HasItems run.items entry items
+stretch_has_span : (job : JobView) (run : RunView) (zone : ZoneLine) (channel : Option ℕ) (begins : SpanStartView) (last : Option EventId) (entry : ℕ) (items : List Item) → HasItems run.items entry items
     → HasSpan job run zone (stretch_between job zone channel begins last entry items)
 stretch_has_span job run zone channel begins last entry items has = record {
   span = record { zone = zone; on = begins.on zone.zone; line = begins.line; at = begins.at; items = items };
@@ -690,7 +690,7 @@ stretch_has_span job run zone channel begins last entry items has = record {
   shared = boxes_share_out_places (record { zone = zone; on = begins.on zone.zone; line = begins.line; at = begins.at; items = items });
 }
 
-zone_shared : (job : JobView) (run : RunView) (occurrences : List Occurrence) (zone : ZoneLine) → All (HasSpan job run zone) (stretches_of_zone job run.items occurrences zone)
+zone_shared : (job : JobView) (run : RunView) (occurrences : List OccurrenceView) (zone : ZoneLine) → All (HasSpan job run zone) (stretches_of_zone job run.items occurrences zone)
 zone_shared job run occurrences zone =
     each_stretch job run.items occurrences zone (HasSpan job run zone)
     (λ c. All-weaker (λ span. HasItems run.items span.entry span.items) (HoldsOf job zone (HasSpan job run zone) c)

@@ -9,11 +9,11 @@ use Rattle.order_clocks.specs.Clocked.{moves_in}
 use Rattle.sync_types.specs.Boards.{Board}
 use Rattle.sync_types.specs.Views.{RunView}
 use Rattle.sync_types.specs.declared.Item.{Item}
-use Rattle.zone_stretches.specs.Occurrences.{Occurrence, occurrences_of}
+use Rattle.zone_stretches.specs.Occurrences.{OccurrenceView, occurrences_of}
 use Rattle.zone_stretches.specs.Overlaps.{ZoneTime, zone_times}
 use Rattle.zone_stretches.specs.Spans.{Span, spans_of}
 use Rattle.zone_stretches.specs.Stretches.{StretchView, stretch_of_span, free_stretch, spans_between, spans_in, spans_until, stretches_held_by, stretches_in_tenure, stretches_of_zone, all_stretches}
-use Rattle.zone_stretches.specs.Tenures.{Tenure, tenures_of}
+use Rattle.zone_stretches.specs.Tenures.{TenureView, tenures_of}
 
 -- ---- zones
 
@@ -52,9 +52,9 @@ between P spans from (Some upto) all = All-take P (suc upto - from) (drop from s
 -- it holds of the stretch of a span, also where that ends with a tenure
 abbrev pub HoldsOf : JobView → ZoneLine → (StretchView → Type 0) → ℕ → Span → Type 0
 HoldsOf job zone P c span =
-    P (stretch_of_span job zone c span) × ((t : Tenure) → P (free_stretch job zone t) → P (stretch_of_span job zone c (record span { last = t.last })))
+    P (stretch_of_span job zone c span) × ((t : TenureView) → P (free_stretch job zone t) → P (stretch_of_span job zone c (record span { last = t.last })))
 
-until : (job : JobView) (zone : ZoneLine) (P : StretchView → Type 0) (c : ℕ) (t : Tenure) → P (free_stretch job zone t) → (spans : List Span) → All (HoldsOf job zone P c) spans
+until : (job : JobView) (zone : ZoneLine) (P : StretchView → Type 0) (c : ℕ) (t : TenureView) → P (free_stretch job zone t) → (spans : List Span) → All (HoldsOf job zone P c) spans
     → All (λ span. P (stretch_of_span job zone c span)) (spans_until t.last spans)
 until job zone P c t free [] each = All-nil (λ span. P (stretch_of_span job zone c span))
 until job zone P c t free (span ∷ []) each =
@@ -65,21 +65,21 @@ until job zone P c t free (span ∷ next ∷ spans) each =
     (until job zone P c t free (next ∷ spans) (All-tail (HoldsOf job zone P c) span (next ∷ spans) each))
 
 held : (job : JobView) (zone : ZoneLine) (spans : ℕ → List Span) (P : StretchView → Type 0) → ((c : ℕ) → All (HoldsOf job zone P c) (spans c))
-    → (t : Tenure) → P (free_stretch job zone t) → (owner : Option ℕ) → All P (stretches_held_by job zone spans t owner)
+    → (t : TenureView) → P (free_stretch job zone t) → (owner : Option ℕ) → All P (stretches_held_by job zone spans t owner)
 held job zone spans P each t free None = All-cons P (free_stretch job zone t) [] free (All-nil P)
 held job zone spans P each t free (Some c) =
     All-map P (stretch_of_span job zone c) (spans_in (spans c) t)
     (until job zone P c t free (spans_between (spans c) t.from t.upto) (between (HoldsOf job zone P c) (spans c) t.from t.upto (each c)))
 
 pub in_tenures : (job : JobView) (zone : ZoneLine) (spans : ℕ → List Span) (P : StretchView → Type 0) → ((c : ℕ) → All (HoldsOf job zone P c) (spans c))
-    → (tenures : List Tenure) → All (λ t. P (free_stretch job zone t)) tenures → All P (flat_map (stretches_in_tenure job zone spans) tenures)
+    → (tenures : List TenureView) → All (λ t. P (free_stretch job zone t)) tenures → All P (flat_map (stretches_in_tenure job zone spans) tenures)
 in_tenures job zone spans P each [] free = All-nil P
 in_tenures job zone spans P each (t ∷ ts) free =
     All-append P (stretches_in_tenure job zone spans t) (flat_map (stretches_in_tenure job zone spans) ts)
     (held job zone spans P each t (All-head (λ t. P (free_stretch job zone t)) t ts free) t.owner)
     (in_tenures job zone spans P each ts (All-tail (λ t. P (free_stretch job zone t)) t ts free))
 
-pub each_stretch : (job : JobView) (items : List (List Item)) (occurrences : List Occurrence) (zone : ZoneLine) (P : StretchView → Type 0)
+pub each_stretch : (job : JobView) (items : List (List Item)) (occurrences : List OccurrenceView) (zone : ZoneLine) (P : StretchView → Type 0)
     → ((c : ℕ) → All (HoldsOf job zone P c) (spans_of job items occurrences c))
     → All (λ t. P (free_stretch job zone t)) (tenures_of job occurrences zone) → All P (stretches_of_zone job items occurrences zone)
 unfolding stretches_of_zone

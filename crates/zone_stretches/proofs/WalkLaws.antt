@@ -9,7 +9,7 @@ use Rattle.zone_stretches.specs.Overlaps.{Order}
 use Rattle.zone_stretches.specs.SoundStretches.{HasLowNames}
 use Rattle.zone_stretches.specs.Stretches.{StretchView}
 use Rattle.zone_stretches.specs.declared.ascents.Range.{Range}
-use Rattle.zone_stretches.specs.declared.ascents.Walk.{Walk}
+use Rattle.zone_stretches.specs.declared.ascents.RangeCursor.{RangeCursor}
 
 pub not_not : (b : Bool) → not b ≡ false → b ≡ true
 not_not true off = refl
@@ -44,7 +44,7 @@ module _ (before : Order) (own others : List StretchView) (timed : IsTimed befor
   places_of x y range same from upto false = upto ∙ ap (λ (z : StretchView). found z false) same
 
   -- those of the first stretch are the least, those of the last the most
-  pub walk_started : (walk : Walk) (d e : StretchView) → do_ascend before own ≡ true → AreOf (get_or own 0 d) walk.range → AreOf (get_or own (length own - 1) e) walk.limit → IsWalk before own others 0 walk
+  pub walk_started : (walk : RangeCursor) (d e : StretchView) → do_ascend before own ≡ true → AreOf (get_or own 0 d) walk.range → AreOf (get_or own (length own - 1) e) walk.limit → IsWalk before own others 0 walk
   walk_started walk d e ascend first last ascends = (
     ascend,
     λ k f later below. record {
@@ -65,7 +65,7 @@ module _ (before : Order) (own others : List StretchView) (timed : IsTimed befor
     },
   )
 
-  pub walk_on : (walk next : Walk) (place : ℕ) (d : StretchView) → place < length own → next.ascends ≡ walk.ascends → next.limit ≡ walk.limit → AreOf (get_or own place d) next.range
+  pub walk_on : (walk next : RangeCursor) (place : ℕ) (d : StretchView) → place < length own → next.ascends ≡ walk.ascends → next.limit ≡ walk.limit → AreOf (get_or own place d) next.range
       → IsWalk before own others place walk → IsWalk before own others (place + 1) next
   walk_on walk next place d within same_ascends same_limit are known ascends =
       let so_far = known (sym same_ascends ∙ ascends) in (

@@ -8,7 +8,7 @@ use Rattle.sync_types.specs.declared.Item.{Item}
 use Rattle.zone_stretches.specs.Overlaps.{zone_times}
 use Rattle.zone_stretches.specs.Stretches.{StretchView, all_stretches}
 use Rattle.zone_stretches.specs.ZoneBoxes.{PlaceBox, boxes_of, on_after, seen, shown_box, stand_after}
-use Rattle.zone_stretches.specs.declared.sights.Sight.TheVariants.{Moves}
+use Rattle.zone_stretches.specs.declared.sights.ZoneEffect.TheVariants.{Moves}
 
 -- ---- places
 

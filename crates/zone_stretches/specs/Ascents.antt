@@ -9,7 +9,7 @@ use Rattle.zone_stretches.specs.Overlaps.{Order, is_open_at}
 use Rattle.zone_stretches.specs.SoundStretches.{HasLowNames}
 use Rattle.zone_stretches.specs.Stretches.{StretchView}
 use Rattle.zone_stretches.specs.declared.ascents.Range.{Range}
-use Rattle.zone_stretches.specs.declared.ascents.Walk.{Walk}
+use Rattle.zone_stretches.specs.declared.ascents.RangeCursor.{RangeCursor}
 
 -- ---- lists of which the first elements pass a test
 
@@ -81,6 +81,6 @@ pub record IsBetween (before : Order) (own : StretchView) (others : List Stretch
   pub within : (ended : Bool) → place_in high ended ≤ length others
 
 -- where they ascend, this is known of each from this place on
-abbrev pub IsWalk : Order → List StretchView → List StretchView → ℕ → Walk → Type 0
+abbrev pub IsWalk : Order → List StretchView → List StretchView → ℕ → RangeCursor → Type 0
 IsWalk before own others place walk =
     walk.ascends ≡ true → (do_ascend before own ≡ true) × ((k : ℕ) (d : StretchView) → place ≤ k → k < length own → IsBetween before (slice_index_or own k d) others walk.range walk.limit)

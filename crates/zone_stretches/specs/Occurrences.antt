@@ -14,7 +14,7 @@ use Rattle.sync_types.specs.declared.verdicts.StretchKind.TheVariants.{Run, Hold
 -- An event of a channel: its name, what the channel does from then on, the line of the block where the channel acts, where
 -- axes of the channel stand, as far as the event tells it, the zones of the channel that are on, whether it lets an axis go, and
 -- whether it takes one.
-pub record Occurrence : Type 0 where
+pub record OccurrenceView : Type 0 where
   pub name : EventId
   pub channel : ℕ
   pub kind : StretchKind
@@ -41,7 +41,7 @@ lowest_of_event goings c =
     unwrap_or (first_of (filter (λ d. among (channels_in goings) d && (labels (pairs_of goings) d == labels (pairs_of goings) c)) channel_numbers)) c
 
 -- the act of the step of this place
-abbrev pub act_of : ℕ → Step → Happening → Occurrence
+abbrev pub act_of : ℕ → Step → Happening → OccurrenceView
 act_of i step h = record {
   name = record { step = i; channel = h.channel; go = false };
   channel = h.channel;
@@ -54,7 +54,7 @@ act_of i step h = record {
 }
 
 -- a going on in it
-abbrev pub going_on_of : ℕ → List Going → Going → Occurrence
+abbrev pub going_on_of : ℕ → List Going → Going → OccurrenceView
 going_on_of i goings g = record {
   name = record { step = i; channel = lowest_of_event goings g.channel; go = true };
   channel = g.channel;
@@ -67,14 +67,14 @@ going_on_of i goings g = record {
 }
 
 -- in a step the act comes first, then those that go on, in their order
-abbrev pub occurrences_in : ℕ → Step → Happening → List Occurrence
+abbrev pub occurrences_in : ℕ → Step → Happening → List OccurrenceView
 occurrences_in i step h = act_of i step h ∷ map (going_on_of i h.goings) h.goings
 
 -- the events of the steps from this place on
-abbrev pub occurrences_from : Board → ℕ → List Move → List Occurrence
+abbrev pub occurrences_from : Board → ℕ → List Move → List OccurrenceView
 occurrences_from b i [] = []
 occurrences_from b i (m ∷ ms) = occurrences_in i m.step (happening_of b m.channel m.step) ++ occurrences_from (after_step b m.channel m.step) (suc i) ms
 
 -- all events of a run
-unfoldable pub occurrences_of : Board → List Move → List Occurrence
+unfoldable pub occurrences_of : Board → List Move → List OccurrenceView
 occurrences_of b moves = occurrences_from b 0 moves

@@ -10,9 +10,9 @@ use Rattle.sync_types.specs.Views.{RunView}
 use Rattle.sync_types.specs.declared.Item.{Item}
 use Rattle.sync_types.specs.declared.runs.EventId.{EventId}
 use Rattle.sync_types.specs.declared.verdicts.PlaceName.{PlaceName}
-use Rattle.zone_stretches.specs.Occurrences.{Occurrence, occurrences_of}
-use Rattle.zone_stretches.specs.Spans.{Beginning, Span, entry_of_beginning, spans_of}
-use Rattle.zone_stretches.specs.Tenures.{Tenure, tenures_of}
+use Rattle.zone_stretches.specs.Occurrences.{OccurrenceView, occurrences_of}
+use Rattle.zone_stretches.specs.Spans.{SpanStartView, Span, entry_of_beginning, spans_of}
+use Rattle.zone_stretches.specs.Tenures.{TenureView, tenures_of}
 use Rattle.zone_stretches.specs.ZoneBoxes.{boxes_of, shown_box}
 use Rattle.zone_stretches.specs.declared.stretches.ZoneBox.{ZoneBox}
 
@@ -29,7 +29,7 @@ pub record StretchesView : Type 0 where
   pub zones : List (List StretchView)
 
 -- a time of a zone that begins so for a channel, or for none, while this is done
-abbrev pub stretch_between : JobView → ZoneLine → Option ℕ → Beginning → Option EventId → ℕ → List Item → StretchView
+abbrev pub stretch_between : JobView → ZoneLine → Option ℕ → SpanStartView → Option EventId → ℕ → List Item → StretchView
 stretch_between job zone channel begins last entry items = record {
   name = record { zone = zone.zone; channel = channel; kind = begins.kind; line = begins.line };
   first = begins.first;
@@ -43,7 +43,7 @@ abbrev pub stretch_of_span : JobView → ZoneLine → ℕ → Span → StretchVi
 stretch_of_span job zone c span = stretch_between job zone (Some c) span.begins span.last span.entry span.items
 
 -- the time while nobody holds it
-abbrev pub free_stretch : JobView → ZoneLine → Tenure → StretchView
+abbrev pub free_stretch : JobView → ZoneLine → TenureView → StretchView
 free_stretch job zone t = stretch_between job zone None t.begins t.last (entry_of_beginning t.begins) []
 
 -- the spans of these numbers, up to the end where the last is none
@@ -58,19 +58,19 @@ spans_until last (span ∷ []) = record span { last = last } ∷ []
 spans_until last (span ∷ next ∷ spans) = span ∷ spans_until last (next ∷ spans)
 
 -- the spans of the owner of a tenure: the last of them ends with the tenure
-abbrev pub spans_in : List Span → Tenure → List Span
+abbrev pub spans_in : List Span → TenureView → List Span
 spans_in spans t = spans_until t.last (spans_between spans t.from t.upto)
 
-abbrev pub stretches_held_by : JobView → ZoneLine → (ℕ → List Span) → Tenure → Option ℕ → List StretchView
+abbrev pub stretches_held_by : JobView → ZoneLine → (ℕ → List Span) → TenureView → Option ℕ → List StretchView
 stretches_held_by job zone spans t None = free_stretch job zone t ∷ []
 stretches_held_by job zone spans t (Some c) = map (stretch_of_span job zone c) (spans_in (spans c) t)
 
 -- in a tenure the zone has the spans of its owner, or one stretch where nobody holds it
-abbrev pub stretches_in_tenure : JobView → ZoneLine → (ℕ → List Span) → Tenure → List StretchView
+abbrev pub stretches_in_tenure : JobView → ZoneLine → (ℕ → List Span) → TenureView → List StretchView
 stretches_in_tenure job zone spans t = stretches_held_by job zone spans t t.owner
 
 -- the stretches of a zone in a run with these items and these events
-unfoldable pub stretches_of_zone : JobView → List (List Item) → List Occurrence → ZoneLine → List StretchView
+unfoldable pub stretches_of_zone : JobView → List (List Item) → List OccurrenceView → ZoneLine → List StretchView
 stretches_of_zone job items occurrences zone = flat_map (stretches_in_tenure job zone (spans_of job items occurrences)) (tenures_of job occurrences zone)
 
 -- the stretches of all zones in a run from this board

@@ -9,16 +9,16 @@ use Rattle.job_types.specs.Job.{JobView}
 use Rattle.job_types.specs.declared.job.ZoneLine.{ZoneLine}
 use Rattle.sync_types.specs.declared.runs.EventId.{EventId}
 use Rattle.sync_types.specs.declared.verdicts.StretchKind.TheVariants.{Free}
-use Rattle.zone_stretches.specs.Occurrences.{Occurrence}
-use Rattle.zone_stretches.specs.Spans.{Beginning, is_on_at_first}
+use Rattle.zone_stretches.specs.Occurrences.{OccurrenceView}
+use Rattle.zone_stretches.specs.Spans.{SpanStartView, is_on_at_first}
 
 -- A tenure: the channel that holds the zone, or none; of its spans the number of the first in the tenure, and of the last, or none
 -- where it lasts; how the zone stands as it begins, which counts where nobody holds it; and the event that ends it.
-pub record Tenure : Type 0 where
+pub record TenureView : Type 0 where
   pub owner : Option ℕ
   pub from : ℕ
   pub upto : Option ℕ
-  pub begins : Beginning
+  pub begins : SpanStartView
   pub last : Option EventId
 
 -- a direction is carried by one of the axes for which the test holds
@@ -31,11 +31,11 @@ abbrev pub carry : ZoneLine → (ℕ → Bool) → Bool
 carry zone test = list_any (λ side. is_carried_by test side.carrier) zone.sides
 
 -- the zone changes hands in an event: its axes are let go or taken
-abbrev pub changes_hands : ZoneLine → Occurrence → Bool
+abbrev pub changes_hands : ZoneLine → OccurrenceView → Bool
 changes_hands zone o = carry zone o.frees || carry zone o.takes
 
 -- how the zone stands as the job begins
-abbrev pub first_tenure : JobView → ZoneLine → Tenure
+abbrev pub first_tenure : JobView → ZoneLine → TenureView
 first_tenure job zone = record {
   owner = zone.holder;
   from = 0;
@@ -45,7 +45,7 @@ first_tenure job zone = record {
 }
 
 -- who takes the axes holds the zone; where they are let go nobody does. The channel's next span is the first of the tenure.
-abbrev pub tenure_after : ZoneLine → (ℕ → ℕ) → Occurrence → Tenure
+abbrev pub tenure_after : ZoneLine → (ℕ → ℕ) → OccurrenceView → TenureView
 tenure_after zone counts o = record {
   owner = if carry zone o.takes then Some o.channel else None;
   from = suc (counts o.channel);
@@ -55,7 +55,7 @@ tenure_after zone counts o = record {
 }
 
 -- the tenure ends with an event: its last span is that in which its owner is then
-abbrev pub tenure_until : (ℕ → ℕ) → Tenure → Occurrence → Tenure
+abbrev pub tenure_until : (ℕ → ℕ) → TenureView → OccurrenceView → TenureView
 tenure_until counts t o = record t { upto = Some (option_map_or counts t.owner 0); last = Some o.name }
 
 -- one event more of its channel
@@ -63,7 +63,7 @@ abbrev pub counted : (ℕ → ℕ) → ℕ → ℕ → ℕ
 counted counts c d = if d == c then suc (counts d) else counts d
 
 -- the tenures of a zone from one on; so many events of each channel have been
-abbrev pub tenures_from : ZoneLine → (ℕ → ℕ) → Tenure → List Occurrence → List Tenure
+abbrev pub tenures_from : ZoneLine → (ℕ → ℕ) → TenureView → List OccurrenceView → List TenureView
 tenures_from zone counts t [] = t ∷ []
 tenures_from zone counts t (o ∷ os) =
     if changes_hands zone o
@@ -71,5 +71,5 @@ tenures_from zone counts t (o ∷ os) =
     else tenures_from zone (counted counts o.channel) t os
 
 -- the tenures of a zone in a run with these events
-unfoldable pub tenures_of : JobView → List Occurrence → ZoneLine → List Tenure
+unfoldable pub tenures_of : JobView → List OccurrenceView → ZoneLine → List TenureView
 tenures_of job occurrences zone = tenures_from zone (λ c. 0) (first_tenure job zone) occurrences

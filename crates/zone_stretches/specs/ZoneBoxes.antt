@@ -14,8 +14,8 @@ use Rattle.sync_types.specs.Items.{movement_of}
 use Rattle.sync_types.specs.declared.Item.{Item}
 use Rattle.sync_types.specs.declared.Part.{Part}
 use Rattle.sync_types.specs.declared.Part.TheVariants.{Move, Switch}
-use Rattle.zone_stretches.specs.declared.sights.Sight.{Sight}
-use Rattle.zone_stretches.specs.declared.sights.Sight.TheVariants.{Nothing, Turns, Moves}
+use Rattle.zone_stretches.specs.declared.sights.ZoneEffect.{ZoneEffect}
+use Rattle.zone_stretches.specs.declared.sights.ZoneEffect.TheVariants.{Nothing, Turns, Moves}
 use Rattle.zone_stretches.specs.declared.stretches.ZoneBox.{ZoneBox}
 
 -- ---- where axes and sides stand
@@ -68,15 +68,15 @@ unfoldable pub moves_zone : ZoneLine → Item → Bool
 moves_zone zone item = list_any (λ e. has_axis zone e.0) (axes_of (movement_of item))
 
 -- an item is nothing to a zone, a switch of it, or a motion with an axis of it
-abbrev pub sight_of : ZoneLine → Item → Part → Sight
+abbrev pub sight_of : ZoneLine → Item → Part → ZoneEffect
 sight_of zone item (Switch number on) = if number == zone.zone then Turns on else Nothing
 sight_of zone item (Move motion) = if moves_zone zone item then Moves else Nothing
 
-abbrev pub seen : ZoneLine → Item → Sight
+abbrev pub seen : ZoneLine → Item → ZoneEffect
 seen zone item = sight_of zone item item.part
 
 -- an item switches the zone, or leaves it as it is
-abbrev pub turned : Bool → Sight → Bool
+abbrev pub turned : Bool → ZoneEffect → Bool
 turned on (Turns new) = new
 turned on other = on
 
@@ -109,14 +109,14 @@ closed to (Waiting from line at) = record { from = from; to = to; motion = None;
 closed to (Moving from place item at) = record { from = from; to = to; motion = Some (place, item); line = item.line; at = at } ∷ []
 
 -- an item that has the next place ends the box before it where it switches the zone off, or moves it once more
-abbrev pub closed_before : ℕ → Opened → Sight → List PlaceBox
+abbrev pub closed_before : ℕ → Opened → ZoneEffect → List PlaceBox
 closed_before to (Moving from place item at) Moves = closed to (Moving from place item at)
 closed_before to opened (Turns false) = closed to opened
 closed_before to opened other = []
 
 -- What is open from the place of this item on; the axes stand so before it. The first motion of a part takes over the box from the part's beginning, and
 -- each other motion has a box of its own. A zone that is switched on and is on goes on.
-abbrev pub next_open : ℕ → (ℕ → ℤ) → Item → Opened → Sight → Opened
+abbrev pub next_open : ℕ → (ℕ → ℤ) → Item → Opened → ZoneEffect → Opened
 next_open place at item opened (Turns false) = Shut
 next_open place at item Shut (Turns true) = Waiting place item.line at
 next_open place at item (Waiting from line began) Moves = Moving from place item at

@@ -25,7 +25,7 @@ pub struct Range {
 
 /// A walk along the stretches of a zone: for each of them the places are found of the stretches of another zone that may overlap it.
 #[derive(Clone, Copy)]
-pub struct Walk {
+pub struct RangeCursor {
     /// Whether each stretch that is walked along is over as the next begins, so that the places only go on.
     pub ascends: bool,
     /// The places found last.
@@ -169,7 +169,12 @@ fn range_by_halves(clocks: &Clocks, own: &Stretch, others: &[Stretch]) -> Range
 }
 
 /// A walk along the stretches of a zone, at its start. Where these ascend, the places go from those of the first to those of the last.
-pub fn start_walk(clocks: &Clocks, own: &[Stretch], others: &[Stretch], ascends: bool) -> Walk
+pub fn start_walk(
+    clocks: &Clocks,
+    own: &[Stretch],
+    others: &[Stretch],
+    ascends: bool,
+) -> RangeCursor
     requires timed { IsTimed (is_before_in clocks.now.rows) (own.now ∷ (others.now ∷ [])) }
     requires ascend { ascends ≡ true → model.do_ascend (is_before_in clocks.now.rows) own.now ≡ true }
     requires others { model.do_ascend (is_before_in clocks.now.rows) others.now ≡ true }
@@ -177,13 +182,13 @@ pub fn start_walk(clocks: &Clocks, own: &[Stretch], others: &[Stretch], ascends:
 {
     if !ascends || own.is_empty() {
         let none = Range { from: 0, upto: 0 };
-        return Walk {
+        return RangeCursor {
             ascends: false,
             range: none,
             limit: none,
         };
     }
-    Walk {
+    RangeCursor {
         ascends,
         range: range_by_halves(clocks, &own[0], others),
         limit: range_by_halves(clocks, &own[own.len() - 1], others),
@@ -191,7 +196,7 @@ pub fn start_walk(clocks: &Clocks, own: &[Stretch], others: &[Stretch], ascends:
 }
 
 /// The places of the stretches that may overlap this one, the next of a walk.
-pub fn range_of(clocks: &Clocks, own: &Stretch, others: &[Stretch], walk: Walk) -> Range
+pub fn range_of(clocks: &Clocks, own: &Stretch, others: &[Stretch], walk: RangeCursor) -> Range
     requires passing { (ended : Bool) → model.PassFirst
         (model.passes (is_before_in clocks.now.rows) ended own.now) others.now }
     requires known { walk.ascends ≡ true → model.IsBetween (is_before_in clocks.now.rows) own.now

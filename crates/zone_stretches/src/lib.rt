@@ -14,7 +14,7 @@ mod zone_boxes;
 mod zones;
 
 pub use ascents::{
-    Range, Walk, ascends_at, ascents_of, do_ascend, near_part, part, range_of, start_walk,
+    Range, RangeCursor, ascends_at, ascents_of, do_ascend, near_part, part, range_of, start_walk,
 };
 pub use laws::{
     boxes_are_few, boxes_have_covers, boxes_share_out_places, ends_are_lowest_names,
@@ -22,7 +22,7 @@ pub use laws::{
 };
 pub use overlaps::{are_compared, is_of, may_overlap, share_channel, share_place};
 pub use pieces::{boxes_by_pieces, boxes_in_pieces, motion_at, one_box};
-pub use sights::Sight;
+pub use sights::ZoneEffect;
 pub use stretches::{Stretch, Stretches, ZoneBox, lists_of};
 pub use timed_zones::{TimedPairs, TimedZone, TimedZones, ZoneStretch};
 pub use zone_boxes::{standing_zone_box, zone_box};

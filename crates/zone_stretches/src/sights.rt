@@ -2,7 +2,7 @@
 
 /// What an item is to a zone.
 #[derive(Clone, Copy)]
-pub enum Sight {
+pub enum ZoneEffect {
     /// Nothing.
     Nothing,
     /// It switches the zone on, where this is true, or off.
