@@ -168,7 +168,7 @@ nobody_alarms b es ends whole numbers none stops off = record { alarm = at }
           let ends_so = (alarm_ends (moves_in es) b i run within alarms).0 in
           let awake : not (is_idle ((after_moves b (moves_in es)).state (channel_at (channels_of (moves_in es)) i))) ≡ true = ap not (acted_awake (moves_in es) b i within) in
           let here = rw (sym (same_channels es)) at (numbers i (rw (sym (moves_size es)) within)) in
-          no_truth false (flag_set (λ c. is_alarmed ((after_moves b (moves_in es)).state c)) (λ c. not (is_idle ((after_moves b (moves_in es)).state c))) channel_numbers
+          no_truth _ (flag_set (λ c. is_alarmed ((after_moves b (moves_in es)).state c)) (λ c. not (is_idle ((after_moves b (moves_in es)).state c))) channel_numbers
           (channel_at (channels_of (moves_in es)) i) (numbered _ here.0 here.1) awake ends_so) (rw all at (no_flags ends none))
     ])
 
