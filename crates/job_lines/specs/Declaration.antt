@@ -7,6 +7,7 @@ use Rattle.job_lines.specs.declared.code.Code.{Code}
 use Rattle.job_lines.specs.declared.code.Code.TheVariants.{UnknownJobLine, OutOfRange, DeclaredTwice}
 use Rattle.job_lines.specs.declared.declaration.AxisName.{AxisName}
 use Rattle.job_lines.specs.declared.declaration.NamedSide.{NamedSide}
+use Rattle.job_lines.specs.declared.declaration.ZoneHead.{ZoneHead}
 use Rattle.job_lines.specs.declared.declaration.Declaration.{Declaration}
 use Rattle.job_lines.specs.declared.declaration.Declaration.TheVariants.{Channel, Axis, Geo, Offset, Zone}
 use Rattle.nc_expressions.specs.NameTexts.{name_of}
@@ -129,20 +130,27 @@ state_of word =
     else if bytes_eq word (codes "OFF") then Ok false
     else Err UnknownJobLine
 
-unfoldable pub zone_declaration_of : ℕ → List ℕ → List ℕ → List ℕ → List ℕ → List ℕ → List ℕ → List ℕ → List ℕ → List ℕ → List ℕ → List ℕ → List ℕ → List ℕ → Result Declaration Code
-zone_declaration_of greatest zone group holder state cx lx hx cy ly hy cz lz hz = do
+-- a zone by its number, its group, its holder and its state, without its directions
+unfoldable pub zone_head_of : ℕ → List ℕ → List ℕ → List ℕ → List ℕ → Result ZoneHead Code
+zone_head_of greatest zone group holder state = do
   on ← state_of state
   zone ← zone_of zone
   group ← zone_of group
   holder ← owner_of greatest holder
-  x ← named_side_of cx lx hx
-  y ← named_side_of cy ly hy
-  z ← named_side_of cz lz hz
-  Ok (Zone (record { zone = zone; group = group; holder = holder; on = on; x = x; y = y; z = z }))
+  Ok (record { zone = zone; group = group; holder = holder; on = on })
+
+-- a zone with its directions along X, Y and Z, or the first code of these
+unfoldable pub zone_declaration_of : Result ZoneHead Code → Result NamedSide Code → Result NamedSide Code → Result NamedSide Code → Result Declaration Code
+zone_declaration_of head x y z = do
+  head ← head
+  x ← x
+  y ← y
+  z ← z
+  Ok (Zone (record { zone = head.zone; group = head.group; holder = head.holder; on = head.on; x = x; y = y; z = z }))
 
 unfoldable pub zone_line : ℕ → List (List ℕ) → Result Declaration Code
 zone_line greatest (zone ∷ group ∷ holder ∷ state ∷ cx ∷ lx ∷ hx ∷ cy ∷ ly ∷ hy ∷ cz ∷ lz ∷ hz ∷ []) =
-    zone_declaration_of greatest zone group holder state cx lx hx cy ly hy cz lz hz
+    zone_declaration_of (zone_head_of greatest zone group holder state) (named_side_of cx lx hx) (named_side_of cy ly hy) (named_side_of cz lz hz)
 zone_line greatest args = Err UnknownJobLine
 
 -- a second job line

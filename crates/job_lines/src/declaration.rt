@@ -1,6 +1,6 @@
 //! Job lines, each read by itself.
 ghost use Rattle.std.specs.Prelude.{◌≡◌, map};
-ghost use Rattle.job_lines.specs.Declaration.{channel_of, zone_of, axis_name_of, owner_of, slot_of, g_of, carrier_of, named_side_of, channel_declaration_of, starting_declaration_of, channel_line, axis_declaration_of, axis_line, geo_declaration_of, geo_line, offset_declaration_of, offset_line, state_of, zone_declaration_of, zone_line, job_line, declaration_of};
+ghost use Rattle.job_lines.specs.Declaration.{channel_of, zone_of, axis_name_of, owner_of, slot_of, g_of, carrier_of, named_side_of, channel_declaration_of, starting_declaration_of, channel_line, axis_declaration_of, axis_line, geo_declaration_of, geo_line, offset_declaration_of, offset_line, state_of, zone_head_of, zone_declaration_of, zone_line, job_line, declaration_of};
 
 use crate::code::Code;
 use crate::length::length_in;
@@ -28,6 +28,19 @@ pub struct NamedSide {
     pub lo: Um,
     /// The upper end.
     pub hi: Um,
+}
+
+/// A zone without its directions.
+#[derive(Clone, Copy, PartialEq, Eq)]
+pub struct ZoneHead {
+    /// The zone.
+    pub zone: ZoneId,
+    /// Its group, from 1 on.
+    pub group: u8,
+    /// The channel that holds it, or none where it is held free.
+    pub holder: Option<ChannelId>,
+    /// Whether it is on.
+    pub on: bool,
 }
 
 /// A zone whose axes are names.
@@ -383,39 +396,48 @@ fn state_in(word: &[u8]) -> Result<bool, Code>
     }
 }
 
-/// A zone.
-#[tactic(auto, unfolding(crate::specs::Declaration::zone_declaration_of))]
-fn zone_declaration_in(
+/// A zone without its directions.
+#[tactic(auto, unfolding(crate::specs::Declaration::zone_head_of))]
+fn zone_head_in(
     greatest: ChannelId,
     zone: &[u8],
     group: &[u8],
     holder: &[u8],
     state: &[u8],
-    cx: &[u8],
-    lx: &[u8],
-    hx: &[u8],
-    cy: &[u8],
-    ly: &[u8],
-    hy: &[u8],
-    cz: &[u8],
-    lz: &[u8],
-    hz: &[u8],
-) -> Result<Declaration, Code>
-    ensures { result ≡ zone_declaration_of greatest zone.now group.now holder.now state.now cx.now lx.now hx.now
-        cy.now ly.now hy.now cz.now lz.now hz.now }
+) -> Result<ZoneHead, Code>
+    ensures { result ≡ zone_head_of greatest zone.now group.now holder.now state.now }
 {
     let on = state_in(state)?;
     let zone = zone_in(zone)?;
     let group = group_in(group)?;
     let holder = owner_in(greatest, holder)?;
-    let x = named_side_in(cx, lx, hx)?;
-    let y = named_side_in(cy, ly, hy)?;
-    let z = named_side_in(cz, lz, hz)?;
-    Ok(Declaration::Zone(NamedZone {
+    Ok(ZoneHead {
         zone,
         group,
         holder,
         on,
+    })
+}
+
+/// A zone with its directions along X, Y and Z, or the first code of these.
+#[tactic(auto, unfolding(crate::specs::Declaration::zone_declaration_of))]
+fn zone_declaration_in(
+    head: Result<ZoneHead, Code>,
+    x: Result<NamedSide, Code>,
+    y: Result<NamedSide, Code>,
+    z: Result<NamedSide, Code>,
+) -> Result<Declaration, Code>
+    ensures { result ≡ zone_declaration_of head x y z }
+{
+    let head = head?;
+    let x = x?;
+    let y = y?;
+    let z = z?;
+    Ok(Declaration::Zone(NamedZone {
+        zone: head.zone,
+        group: head.group,
+        holder: head.holder,
+        on: head.on,
         x,
         y,
         z,
@@ -442,9 +464,13 @@ fn zone_line_in(greatest: ChannelId, args: &[&[u8]]) -> Result<Declaration, Code
             cz,
             lz,
             hz,
-        ] => zone_declaration_in(
-            greatest, zone, group, holder, state, cx, lx, hx, cy, ly, hy, cz, lz, hz,
-        ),
+        ] => {
+            let head = zone_head_in(greatest, zone, group, holder, state);
+            let x = named_side_in(cx, lx, hx);
+            let y = named_side_in(cy, ly, hy);
+            let z = named_side_in(cz, lz, hz);
+            zone_declaration_in(head, x, y, z)
+        }
         _ => Err(Code::UnknownJobLine),
     }
 }

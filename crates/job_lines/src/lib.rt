@@ -11,7 +11,7 @@ mod numbers;
 mod option_lines;
 
 pub use code::Code;
-pub use declaration::{AxisName, Declaration, NamedSide, NamedZone, declaration_in};
+pub use declaration::{AxisName, Declaration, NamedSide, NamedZone, ZoneHead, declaration_in};
 pub use extent::{
     Extent, FIRST_VERSION, FIRST_VERSION_AXES, FIRST_VERSION_CHANNELS, FIRST_VERSION_MARKS,
 };

@@ -38,7 +38,7 @@ listed some_channels some_axes some_slots some_zones = record {
 
 -- opens what a job line says
 says_open : Unit {0}
-unfolding readings.reading_of readings.entry_reading readings.is_bad_byte readings.form_of readings.is_job_line readings.declaration_line readings.header_line lines.text_of lines.before_comment lines.has_token lines.begins_with_percent declaration.declaration_of declaration.channel_line declaration.channel_declaration_of declaration.starting_declaration_of declaration.channel_of declaration.zone_of declaration.axis_name_of declaration.owner_of declaration.slot_of declaration.carrier_of declaration.named_side_of declaration.axis_declaration_of declaration.axis_line declaration.geo_declaration_of declaration.geo_line declaration.state_of declaration.zone_declaration_of declaration.zone_line options.option_declaration_of options.budget_of options.budget_line numbers.number_within numbers.whole_of numbers.is_whole numbers.is_digits lengths.length_of lengths.signed_size_of lengths.size_of lengths.in_reach lengths.is_size number_of half_away headers.header_of headers.header_word_of headers.is_header headers.has_header_form headers.is_name_byte
+unfolding readings.reading_of readings.entry_reading readings.is_bad_byte readings.form_of readings.is_job_line readings.declaration_line readings.header_line lines.text_of lines.before_comment lines.has_token lines.begins_with_percent declaration.declaration_of declaration.channel_line declaration.channel_declaration_of declaration.starting_declaration_of declaration.channel_of declaration.zone_of declaration.axis_name_of declaration.owner_of declaration.slot_of declaration.carrier_of declaration.named_side_of declaration.axis_declaration_of declaration.axis_line declaration.geo_declaration_of declaration.geo_line declaration.state_of declaration.zone_head_of declaration.zone_declaration_of declaration.zone_line options.option_declaration_of options.budget_of options.budget_line numbers.number_within numbers.whole_of numbers.is_whole numbers.is_digits lengths.length_of lengths.signed_size_of lengths.size_of lengths.in_reach lengths.is_size number_of half_away headers.header_of headers.header_word_of headers.is_header headers.has_header_form headers.is_name_byte
 says_open = tt
 
 -- opens what it breaks, and what is told with it

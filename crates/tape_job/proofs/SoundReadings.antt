@@ -16,6 +16,7 @@ use Rattle.job_lines.specs.declared.code.Code.{Code}
 use Rattle.job_lines.specs.declared.code.Code.TheVariants.{OutOfRange}
 use Rattle.job_lines.specs.declared.declaration.AxisName.{AxisName}
 use Rattle.job_lines.specs.declared.declaration.NamedSide.{NamedSide}
+use Rattle.job_lines.specs.declared.declaration.ZoneHead.{ZoneHead}
 use Rattle.job_lines.specs.declared.declaration.Declaration.{Declaration}
 use Rattle.job_lines.specs.declared.declaration.Declaration.TheVariants.{Channel, Axis, Offset, Zone, Margin, Depth, Budget}
 use Rattle.job_lines.specs.Code.{◌>>=◌, or_code}
@@ -231,22 +232,33 @@ unfolding declaration.offset_line
 offset_line_sound greatest (channel ∷ g ∷ slot ∷ by ∷ []) = offset_declaration_sound greatest channel g slot by
 offset_line_sound greatest args = tt
 
-zone_declaration_sound : (greatest : ℕ) (zone group holder state cx lx hx cy ly hy cz lz hz : List ℕ)
-    → IfOk (declaration.zone_declaration_of greatest zone group holder state cx lx hx cy ly hy cz lz hz) IsSoundDeclaration
+-- a zone without its directions
+abbrev IsSoundHead : ZoneHead → Type 0
+IsSoundHead head = IsWithin 1 ZONE_LIMIT head.zone × IsWithin 1 ZONE_LIMIT head.group
+
+zone_head_sound : (greatest : ℕ) (zone group holder state : List ℕ) → IfOk (declaration.zone_head_of greatest zone group holder state) IsSoundHead
+unfolding declaration.zone_head_of
+zone_head_sound greatest zone group holder state =
+    then_any IsSoundHead (declaration.state_of state) _ (λ on.
+    then_ok (IsWithin 1 ZONE_LIMIT) IsSoundHead (declaration.zone_of zone) _ (zone_sound zone) (λ z zone_range.
+    then_ok (IsWithin 1 ZONE_LIMIT) IsSoundHead (declaration.zone_of group) _ (zone_sound group) (λ g group_range.
+    then_any IsSoundHead (declaration.owner_of greatest holder) _ (λ h. (zone_range, group_range)))))
+
+zone_declaration_sound : (head : Result ZoneHead Code) (x y z : Result NamedSide Code) → IfOk head IsSoundHead → IfOk x IsSoundSide → IfOk y IsSoundSide → IfOk z IsSoundSide
+    → IfOk (declaration.zone_declaration_of head x y z) IsSoundDeclaration
 unfolding declaration.zone_declaration_of
-zone_declaration_sound greatest zone group holder state cx lx hx cy ly hy cz lz hz =
-    then_any IsSoundDeclaration (declaration.state_of state) _ (λ on.
-    then_ok (IsWithin 1 ZONE_LIMIT) IsSoundDeclaration (declaration.zone_of zone) _ (zone_sound zone) (λ z zone_range.
-    then_ok (IsWithin 1 ZONE_LIMIT) IsSoundDeclaration (declaration.zone_of group) _ (zone_sound group) (λ g group_range.
-    then_any IsSoundDeclaration (declaration.owner_of greatest holder) _ (λ h.
-    then_ok IsSoundSide IsSoundDeclaration (declaration.named_side_of cx lx hx) _ (side_sound cx lx hx) (λ x x_range.
-    then_ok IsSoundSide IsSoundDeclaration (declaration.named_side_of cy ly hy) _ (side_sound cy ly hy) (λ y y_range.
-    then_ok IsSoundSide IsSoundDeclaration (declaration.named_side_of cz lz hz) _ (side_sound cz lz hz) (λ w w_range.
-    (zone_range, group_range, x_range, y_range, w_range))))))))
+zone_declaration_sound head x y z is_head is_x is_y is_z =
+    then_ok IsSoundHead IsSoundDeclaration head _ is_head (λ h ranges.
+    then_ok IsSoundSide IsSoundDeclaration x _ is_x (λ a x_range.
+    then_ok IsSoundSide IsSoundDeclaration y _ is_y (λ b y_range.
+    then_ok IsSoundSide IsSoundDeclaration z _ is_z (λ c z_range.
+    (ranges.0, ranges.1, x_range, y_range, z_range)))))
 
 zone_line_sound : (greatest : ℕ) (args : List (List ℕ)) → IfOk (declaration.zone_line greatest args) IsSoundDeclaration
 unfolding declaration.zone_line
-zone_line_sound greatest (zone ∷ group ∷ holder ∷ state ∷ cx ∷ lx ∷ hx ∷ cy ∷ ly ∷ hy ∷ cz ∷ lz ∷ hz ∷ []) = zone_declaration_sound greatest zone group holder state cx lx hx cy ly hy cz lz hz
+zone_line_sound greatest (zone ∷ group ∷ holder ∷ state ∷ cx ∷ lx ∷ hx ∷ cy ∷ ly ∷ hy ∷ cz ∷ lz ∷ hz ∷ []) =
+    zone_declaration_sound (declaration.zone_head_of greatest zone group holder state) (declaration.named_side_of cx lx hx) (declaration.named_side_of cy ly hy)
+    (declaration.named_side_of cz lz hz) (zone_head_sound greatest zone group holder state) (side_sound cx lx hx) (side_sound cy ly hy) (side_sound cz lz hz)
 zone_line_sound greatest args = tt
 
 job_line_sound : (args : List (List ℕ)) → IfOk (declaration.job_line args) IsSoundDeclaration
