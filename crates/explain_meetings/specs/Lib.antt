@@ -10,4 +10,5 @@ pub mod GroupSteps
 pub mod PassedOwns
 pub mod ZonePairs
 pub mod PairSteps
+pub mod Contexts
 pub mod CountSteps

@@ -5,15 +5,17 @@ ghost use Rattle.explain_meetings.specs.CountSteps as steps;
 ghost use Rattle.explain_meetings.specs.Groups.{capped};
 ghost use Rattle.explain_meetings.specs.Rows.{IsRowTimed, pairs_in, row_pairs};
 ghost use Rattle.order_clocks.specs.Tells.{is_before_in};
+ghost use Rattle.zone_stretches.specs.Ascents as ascents;
 ghost use Rattle.zone_stretches.specs.Ascents.{IsTimed, PassFirst, passes};
 ghost use Rattle.zone_stretches.specs.Overlaps.{share_place, stretch_pairs};
 
-use crate::meetings::Held;
+use crate::contexts::ListedZone;
 use crate::rows::Row;
 use job_types::ZoneLine;
 use order_clocks::Clocks;
 use zone_stretches::{
-    Range, Stretch, ZoneBox, do_ascend, may_overlap, near_part, share_channel, share_place,
+    Range, Stretch, ZoneBox, ZoneStretch, do_ascend, may_overlap, near_part, share_channel,
+    share_place,
 };
 
 /// With how many of these a box holds a place in common.
@@ -54,7 +56,7 @@ fn count_in_boxes(left: &Stretch, right: &Stretch) -> u64
 }
 
 /// How many boxes of two stretches are compared.
-fn count_in_stretches(clocks: &Clocks, left: &Held, right: &Held) -> u64
+fn count_in_stretches(clocks: &Clocks, left: &ZoneStretch, right: &ZoneStretch) -> u64
     ensures { result ≡ capped (length (stretch_pairs (is_before_in clocks.now.rows) left.now.zone.now
         left.now.stretch.now right.now.zone.now right.now.stretch.now)) }
 {
@@ -66,13 +68,13 @@ fn count_in_stretches(clocks: &Clocks, left: &Held, right: &Held) -> u64
 }
 
 /// How many boxes of a stretch and of some stretches of another zone are compared.
-fn count_against(clocks: &Clocks, left: &Held, other: &ZoneLine, others: &[Stretch]) -> u64
+fn count_against(clocks: &Clocks, left: &ZoneStretch, other: &ZoneLine, others: &[Stretch]) -> u64
     ensures { result ≡ capped (length (flat_map
         (stretch_pairs (is_before_in clocks.now.rows) left.now.zone.now left.now.stretch.now other.now) others.now)) }
 {
     let mut count: u64 = 0;
     for stretch in others {
-        let right = Held {
+        let right = ZoneStretch {
             zone: other,
             stretch,
         };
@@ -82,44 +84,33 @@ fn count_against(clocks: &Clocks, left: &Held, other: &ZoneLine, others: &[Stret
 }
 
 /// The same of all stretches of another zone. Where these ascend, those alone are looked at that may overlap the stretch.
-fn count_beside(
-    clocks: &Clocks,
-    left: &Held,
-    other: &ZoneLine,
-    others: &[Stretch],
-    ascend: bool,
-    range: &mut Range,
-) -> u64
-    requires { ascend ≡ true → (ended : Bool)
-        → PassFirst (passes (is_before_in clocks.now.rows) ended left.now.stretch.now) others.now }
+fn count_beside(clocks: &Clocks, left: &ZoneStretch, other: &ListedZone, range: &mut Range) -> u64
+    requires { other.now.ascends ≡ true → (ended : Bool)
+        → PassFirst (passes (is_before_in clocks.now.rows) ended left.now.stretch.now) other.now.stretches.now }
     ensures { result ≡ capped (length (flat_map
-        (stretch_pairs (is_before_in clocks.now.rows) left.now.zone.now left.now.stretch.now other.now) others.now)) }
+        (stretch_pairs (is_before_in clocks.now.rows) left.now.zone.now left.now.stretch.now other.now.zone.now)
+        other.now.stretches.now)) }
 {
-    let near = near_part(clocks, left.stretch, others, ascend, range);
-    count_against(clocks, left, other, near)
+    let others = other.stretches;
+    let near = near_part(clocks, left.stretch, others, other.ascends, range);
+    count_against(clocks, left, other.zone, near)
 }
 
 /// How many boxes of the stretches of two zones are compared.
-fn count_in_zones(
-    clocks: &Clocks,
-    zone: &ZoneLine,
-    owns: &[Stretch],
-    other: &ZoneLine,
-    others: &[Stretch],
-) -> u64
-    requires { IsTimed (is_before_in clocks.now.rows) (owns.now ∷ (others.now ∷ [])) }
+fn count_in_zones(clocks: &Clocks, zone: &ZoneLine, owns: &[Stretch], other: &ListedZone) -> u64
+    requires timed { IsTimed (is_before_in clocks.now.rows) (owns.now ∷ (other.now.stretches.now ∷ [])) }
+    requires ascend { other.now.ascends ≡ true
+        → ascents.do_ascend (is_before_in clocks.now.rows) other.now.stretches.now ≡ true }
     ensures { result ≡ capped (length (flat_map
-        (λ left. flat_map (stretch_pairs (is_before_in clocks.now.rows) zone.now left other.now) others.now)
+        (λ left. flat_map (stretch_pairs (is_before_in clocks.now.rows) zone.now left other.now.zone.now)
+        other.now.stretches.now)
         owns.now)) }
 {
-    let ascend = do_ascend(clocks, others);
     let mut range = Range { from: 0, upto: 0 };
     let mut count: u64 = 0;
     for stretch in owns {
-        let left = Held { zone, stretch };
-        count = count.saturating_add(count_beside(
-            clocks, &left, other, others, ascend, &mut range,
-        ));
+        let left = ZoneStretch { zone, stretch };
+        count = count.saturating_add(count_beside(clocks, &left, other, &mut range));
     }
     count
 }
@@ -129,7 +120,12 @@ fn count_in_row(clocks: &Clocks, row: &Row) -> u64
     requires { IsRowTimed (is_before_in clocks.now.rows) row.now }
     ensures { result ≡ capped (length (row_pairs (is_before_in clocks.now.rows) row.now)) }
 {
-    count_in_zones(clocks, row.zone, row.owns, row.other, row.others)
+    let other = ListedZone {
+        zone: row.other,
+        stretches: row.others,
+        ascends: do_ascend(clocks, row.others),
+    };
+    count_in_zones(clocks, row.zone, row.owns, &other)
 }
 
 /// How many boxes of the zones of some rows are compared, or the greatest number of 64 bits where there are more.

@@ -6,15 +6,15 @@ ghost use Rattle.job_types.specs.declared.job.ZoneLine.{ZoneLine};
 ghost use Rattle.explain_meetings.specs.KeptBoxes.{AreKept, IsAt, IsKeptAt};
 ghost use Rattle.swept_boxes.specs.declared.Box3.{Box3};
 ghost use Rattle.sync_types.specs.Views.{RunView};
-ghost use Rattle.zone_stretches.specs.Cases.{place_of};
+ghost use Rattle.zone_stretches.specs.Cases.{box_of};
 ghost use Rattle.zone_stretches.specs.Pieces.{piece_boxes};
 ghost use Rattle.zone_stretches.specs.Stretches.{StretchView};
 ghost use Rattle.zone_stretches.specs.ZoneBoxes.{IsFit};
 
-use crate::meetings::{Held, Scene};
+use crate::contexts::Scene;
 use explain_reach::PartedLot;
 use std::alloc::{AllocError, Global};
-use zone_stretches::{ZoneBox, boxes_by_pieces};
+use zone_stretches::{ZoneBox, ZoneStretch, boxes_by_pieces};
 
 /// Of how many boxes of a stretch at most those by which they are compared are kept. They take 3,200 bytes for each box at the most,
 /// so 27 MB.
@@ -24,7 +24,7 @@ const _: () = prove!(KEPT_LIMIT <= 27_000_000 / 3_200);
 
 /// Whether the boxes of a place are to be kept while the boxes of a stretch are held against them: where there are more of these than
 /// one, and the place is not past the limit.
-pub(crate) fn are_kept(left: &Held, place: usize) -> bool
+pub(crate) fn are_kept(left: &ZoneStretch, place: usize) -> bool
     ensures { result ≡ (nat_lt place KEPT_LIMIT && nat_lt 1 (length left.now.stretch.now.boxes)) }
 {
     let stretch = left.stretch;
@@ -44,11 +44,15 @@ fn have_places(alloc: Global, kept: &mut Vec<PartedLot>, count: usize) -> Result
 }
 
 /// The boxes by which a box of a stretch is compared.
-pub(crate) fn lot_of(scene: &Scene, held: &Held, own: &ZoneBox) -> Result<PartedLot, AllocError>
+pub(crate) fn lot_of(
+    scene: &Scene,
+    held: &ZoneStretch,
+    own: &ZoneBox,
+) -> Result<PartedLot, AllocError>
     requires fit { All (All IsFit) scene.now.run.now.items }
     requires deep { scene.now.job.now.depth ≤ DEPTH_LIMIT }
     ensures { IfOk result (λ made. made ≡ piece_boxes scene.now.job.now scene.now.run.now
-        (place_of held.now.zone.now held.now.stretch.now own.now)) }
+        (box_of held.now own.now)) }
 {
     let boxes = boxes_by_pieces(scene.job, scene.run, held.zone, held.stretch, own);
     PartedLot::over(scene.alloc, boxes.as_slice())
@@ -58,7 +62,7 @@ pub(crate) fn lot_of(scene: &Scene, held: &Held, own: &ZoneBox) -> Result<Parted
 fn make_at(
     kept: &mut Vec<PartedLot>,
     scene: &Scene,
-    right: &Held,
+    right: &ZoneStretch,
     place: usize,
     later: &ZoneBox,
 ) -> Result<(), AllocError>
@@ -68,7 +72,7 @@ fn make_at(
     ensures len { OnOk result (length kept.new.items ≡ length kept.old.items) }
     ensures kept { OnOk result ((made : List Box3) → IsKeptAt kept.new.items place made
         → made ≡ piece_boxes scene.now.job.now scene.now.run.now
-        (place_of right.now.zone.now right.now.stretch.now later.now)) }
+        (box_of right.now later.now)) }
     ensures others { OnOk result ((other : ℕ) → (made : List Box3) → (other ≡ place → ⊥)
         → IsKeptAt kept.new.items other made → IsKeptAt kept.old.items other made) }
 {
@@ -81,7 +85,7 @@ fn make_at(
 fn make_once(
     kept: &mut Vec<PartedLot>,
     scene: &Scene,
-    right: &Held,
+    right: &ZoneStretch,
     place: usize,
     later: &ZoneBox,
 ) -> Result<(), AllocError>
@@ -96,7 +100,7 @@ fn make_once(
         right.now.stretch.now kept.new.items) }
     ensures made { OnOk result ((made : List Box3) → IsKeptAt kept.new.items place made
         → made ≡ piece_boxes scene.now.job.now scene.now.run.now
-        (place_of right.now.zone.now right.now.stretch.now later.now)) }
+        (box_of right.now later.now)) }
 {
     if kept[place].is_empty() {
         make_at(kept, scene, right, place, later)?;
@@ -108,7 +112,7 @@ fn make_once(
 pub(crate) fn keep_at(
     kept: &mut Vec<PartedLot>,
     scene: &Scene,
-    right: &Held,
+    right: &ZoneStretch,
     place: usize,
     later: &ZoneBox,
 ) -> Result<(), AllocError>
@@ -123,7 +127,7 @@ pub(crate) fn keep_at(
         right.now.stretch.now kept.new.items) }
     ensures made { OnOk result ((made : List Box3) → IsKeptAt kept.new.items place made
         → made ≡ piece_boxes scene.now.job.now scene.now.run.now
-        (place_of right.now.zone.now right.now.stretch.now later.now)) }
+        (box_of right.now later.now)) }
 {
     have_places(scene.alloc, kept, place + 1)?;
     make_once(kept, scene, right, place, later)?;

@@ -2,6 +2,7 @@
 //! boxes of two groups, and of two zones, come.
 #![tactic(auto)]
 
+mod contexts;
 mod counts;
 mod groups;
 mod kept;

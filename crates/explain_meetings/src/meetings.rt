@@ -4,18 +4,21 @@ ghost use Rattle.std.specs.List.{flat_map, list_any};
 ghost use Rattle.explain_reach.specs.Lots.{lots_meet};
 ghost use Rattle.job_lines.specs.declared.limits.TheConstants.{DEPTH_LIMIT};
 ghost use Rattle.job_types.specs.SoundJob.{IsSoundJob};
+ghost use Rattle.zone_stretches.specs.Ascents as ascents;
 ghost use Rattle.zone_stretches.specs.Ascents.{IsTimed, PassFirst, passes};
+ghost use Rattle.explain_meetings.specs.Contexts.{case_of};
 ghost use Rattle.explain_meetings.specs.KeptBoxes.{AreKept, IsAt};
 ghost use Rattle.explain_meetings.specs.Meetings.{meetings_of, told_box, told_pair};
 ghost use Rattle.explain_meetings.specs.MeetingSteps as model;
 ghost use Rattle.explain_meetings.specs.Rows.{IsRowTimed};
 ghost use Rattle.order_clocks.specs.Tells.{is_before_in};
-ghost use Rattle.zone_stretches.specs.Cases.{place_of};
+ghost use Rattle.zone_stretches.specs.Cases.{box_of};
 ghost use Rattle.zone_stretches.specs.Pieces.{piece_boxes};
 ghost use Rattle.zone_stretches.specs.Told.{IsTold};
 ghost use Rattle.zone_stretches.specs.ZoneBoxes.{IsFit};
 ghost use Rattle.swept_boxes.specs.Boxes.{boxes_meet};
 
+use crate::contexts::{ListedZone, PartedBox, PlacedBox, Scene, TwoStretches};
 use crate::kept::{are_kept, keep_at, kept_at, lot_of};
 use crate::rows::{Row, rows_of, times_of};
 use axis_sets::{ChannelId, ZoneId};
@@ -28,31 +31,9 @@ use std::alloc::{AllocError, Global};
 use swept_boxes::Box3;
 use sync_types::{EventId, PlaceName, Run, StretchKind};
 use zone_stretches::{
-    Range, Stretch, Stretches, ZoneBox, are_compared, do_ascend, may_overlap, near_part,
-    share_channel,
+    Range, Stretch, Stretches, ZoneBox, ZoneStretch, are_compared, do_ascend, may_overlap,
+    near_part, share_channel,
 };
-
-/// A job with a run of it and the order of its events.
-#[derive(Clone, Copy)]
-pub(crate) struct Scene<'a> {
-    /// Where memory is taken.
-    pub(crate) alloc: Global,
-    /// The job.
-    pub(crate) job: &'a Job,
-    /// The run.
-    pub(crate) run: &'a Run,
-    /// The order of its events.
-    pub(crate) clocks: &'a Clocks,
-}
-
-/// A stretch of a zone.
-#[derive(Clone, Copy)]
-pub(crate) struct Held<'a> {
-    /// The zone.
-    pub(crate) zone: &'a ZoneLine,
-    /// The stretch.
-    pub(crate) stretch: &'a Stretch,
-}
 
 /// What is told of a box of a stretch: the box, how it is named, with which events its stretch begins and ends, and the entry of the
 /// run whose items its places count.
@@ -76,11 +57,10 @@ pub fn told_box(stretch: &Stretch, own: &ZoneBox) -> Place
 }
 
 /// What is told of a box of each of two stretches.
-fn told_pair(left: &Held, own: &ZoneBox, right: &Held, later: &ZoneBox) -> Meeting
+fn told_pair(left: &ZoneStretch, own: &ZoneBox, right: &ZoneStretch, later: &ZoneBox) -> Meeting
     ensures { result ≡ told_pair (
-      place_of left.now.zone.now left.now.stretch.now own.now,
-      place_of
-          right.now.zone.now right.now.stretch.now later.now,
+      box_of left.now own.now,
+      box_of right.now later.now,
     ) }
 {
     Meeting {
@@ -113,7 +93,7 @@ fn do_covers_meet(own: &ZoneBox, later: &ZoneBox) -> bool
 
 /// Whether two boxes are compared and their covers share a point. No others meet, since the boxes by which a box is compared lie in
 /// its cover.
-fn may_meet(left: &Held, own: &ZoneBox, right: &Held, later: &ZoneBox) -> bool
+fn may_meet(left: &ZoneStretch, own: &ZoneBox, right: &ZoneStretch, later: &ZoneBox) -> bool
     ensures { result ≡ model.may_meet left.now.stretch.now own.now right.now.stretch.now later.now }
 {
     are_compared(share_channel(left.stretch, right.stretch), own, later)
@@ -121,7 +101,7 @@ fn may_meet(left: &Held, own: &ZoneBox, right: &Held, later: &ZoneBox) -> bool
 }
 
 /// Whether a box may meet one of these of a stretch.
-fn may_meet_any(left: &Held, own: &ZoneBox, right: &Held, laters: &[ZoneBox]) -> bool
+fn may_meet_any(left: &ZoneStretch, own: &ZoneBox, right: &ZoneStretch, laters: &[ZoneBox]) -> bool
     ensures { result ≡ list_any (model.may_meet left.now.stretch.now own.now right.now.stretch.now) laters.now }
 {
     laters.iter().any(|later| may_meet(left, own, right, later))
@@ -130,22 +110,23 @@ fn may_meet_any(left: &Held, own: &ZoneBox, right: &Held, laters: &[ZoneBox]) ->
 /// Adds two boxes, where they meet; these are the boxes by which they are compared.
 fn add_by_pieces(
     list: &mut Vec<Meeting>,
-    left: &Held,
-    own: &ZoneBox,
-    pieces: &PartedLot,
-    right: &Held,
-    later: &ZoneBox,
-    others: &PartedLot,
+    two: &TwoStretches,
+    own: &PartedBox,
+    later: &PartedBox,
 ) -> Result<(), AllocError>
     ensures { OnOk result (list.new.items ≡ list.old.items
-        ++ (if lots_meet pieces.now others.now then told_pair (
-          place_of left.now.zone.now left.now.stretch.now own.now,
-          place_of right.now.zone.now
-              right.now.stretch.now later.now,
+        ++ (if lots_meet own.now.pieces.now later.now.pieces.now then told_pair (
+          box_of two.now.left.now own.now.whole.now,
+          box_of two.now.right.now later.now.whole.now,
         ) ∷ [] else [])) }
 {
+    let pieces = own.pieces;
+    let others = later.pieces;
     if pieces.meets(others) {
-        add(list, &told_pair(left, own, right, later))?;
+        add(
+            list,
+            &told_pair(two.left, own.whole, two.right, later.whole),
+        )?;
     }
     Ok(())
 }
@@ -155,43 +136,47 @@ fn add_by_pieces(
 fn add_one(
     list: &mut Vec<Meeting>,
     kept: &mut Vec<PartedLot>,
-    scene: &Scene,
-    left: &Held,
-    own: &ZoneBox,
-    pieces: &PartedLot,
-    right: &Held,
-    place: usize,
-    later: &ZoneBox,
+    two: &TwoStretches,
+    own: &PartedBox,
+    later: &PlacedBox,
 ) -> Result<(), AllocError>
-    requires fit { All (All IsFit) scene.now.run.now.items }
-    requires deep { scene.now.job.now.depth ≤ DEPTH_LIMIT }
-    requires pieces { pieces.now ≡ piece_boxes scene.now.job.now scene.now.run.now
-        (place_of left.now.zone.now left.now.stretch.now own.now) }
-    requires later { IsAt right.now.stretch.now.boxes place later.now }
-    requires kept { AreKept scene.now.job.now scene.now.run.now right.now.zone.now
-        right.now.stretch.now kept.old.items }
-    ensures kept { OnOk result (AreKept scene.now.job.now scene.now.run.now right.now.zone.now
-        right.now.stretch.now kept.new.items) }
+    requires fit { All (All IsFit) two.now.scene.now.run.now.items }
+    requires deep { two.now.scene.now.job.now.depth ≤ DEPTH_LIMIT }
+    requires pieces { own.now.pieces.now ≡ piece_boxes two.now.scene.now.job.now two.now.scene.now.run.now
+        (box_of two.now.left.now own.now.whole.now) }
+    requires later { IsAt two.now.right.now.stretch.now.boxes later.now.place later.now.whole.now }
+    requires kept { AreKept two.now.scene.now.job.now two.now.scene.now.run.now two.now.right.now.zone.now
+        two.now.right.now.stretch.now kept.old.items }
+    ensures kept { OnOk result (AreKept two.now.scene.now.job.now two.now.scene.now.run.now two.now.right.now.zone.now
+        two.now.right.now.stretch.now kept.new.items) }
     ensures met { OnOk result (list.new.items ≡ list.old.items
-        ++ model.met_one (record {
-          job = scene.now.job.now;
-          run = scene.now.run.now;
-          before = is_before_in scene.now.clocks.now.rows;
-        })
-        (place_of left.now.zone.now left.now.stretch.now own.now) right.now.zone.now
-        right.now.stretch.now later.now) }
+        ++ model.met_one (case_of two.now.scene.now)
+        (box_of two.now.left.now own.now.whole.now) two.now.right.now.zone.now
+        two.now.right.now.stretch.now later.now.whole.now) }
 {
-    if !may_meet(left, own, right, later) {
+    let scene = two.scene;
+    let left = two.left;
+    let right = two.right;
+    let place = later.place;
+    if !may_meet(left, own.whole, right, later.whole) {
         return Ok(());
     }
     if are_kept(left, place) {
-        keep_at(kept, scene, right, place, later)?;
+        keep_at(kept, scene, right, place, later.whole)?;
         let others = kept_at(kept.as_slice(), place);
-        add_by_pieces(list, left, own, pieces, right, later, others)?;
+        let parted = PartedBox {
+            whole: later.whole,
+            pieces: others,
+        };
+        add_by_pieces(list, two, own, &parted)?;
         return Ok(());
     }
-    let made = lot_of(scene, right, later)?;
-    add_by_pieces(list, left, own, pieces, right, later, &made)?;
+    let made = lot_of(scene, right, later.whole)?;
+    let parted = PartedBox {
+        whole: later.whole,
+        pieces: &made,
+    };
+    add_by_pieces(list, two, own, &parted)?;
     Ok(())
 }
 
@@ -199,34 +184,30 @@ fn add_one(
 fn add_each(
     list: &mut Vec<Meeting>,
     kept: &mut Vec<PartedLot>,
-    scene: &Scene,
-    left: &Held,
-    own: &ZoneBox,
-    pieces: &PartedLot,
-    right: &Held,
+    two: &TwoStretches,
+    own: &PartedBox,
     laters: &[ZoneBox],
 ) -> Result<(), AllocError>
-    requires fit { All (All IsFit) scene.now.run.now.items }
-    requires deep { scene.now.job.now.depth ≤ DEPTH_LIMIT }
-    requires pieces { pieces.now ≡ piece_boxes scene.now.job.now scene.now.run.now
-        (place_of left.now.zone.now left.now.stretch.now own.now) }
-    requires laters { laters.now ≡ right.now.stretch.now.boxes }
-    requires kept { AreKept scene.now.job.now scene.now.run.now right.now.zone.now
-        right.now.stretch.now kept.old.items }
-    ensures kept { OnOk result (AreKept scene.now.job.now scene.now.run.now right.now.zone.now
-        right.now.stretch.now kept.new.items) }
+    requires fit { All (All IsFit) two.now.scene.now.run.now.items }
+    requires deep { two.now.scene.now.job.now.depth ≤ DEPTH_LIMIT }
+    requires pieces { own.now.pieces.now ≡ piece_boxes two.now.scene.now.job.now two.now.scene.now.run.now
+        (box_of two.now.left.now own.now.whole.now) }
+    requires laters { laters.now ≡ two.now.right.now.stretch.now.boxes }
+    requires kept { AreKept two.now.scene.now.job.now two.now.scene.now.run.now two.now.right.now.zone.now
+        two.now.right.now.stretch.now kept.old.items }
+    ensures kept { OnOk result (AreKept two.now.scene.now.job.now two.now.scene.now.run.now two.now.right.now.zone.now
+        two.now.right.now.stretch.now kept.new.items) }
     ensures met { OnOk result (list.new.items ≡ list.old.items
-        ++ flat_map (model.met_one (record {
-          job = scene.now.job.now;
-          run = scene.now.run.now;
-          before = is_before_in scene.now.clocks.now.rows;
-        })
-        (place_of left.now.zone.now left.now.stretch.now own.now) right.now.zone.now
-        right.now.stretch.now) laters.now) }
+        ++ flat_map (model.met_one (case_of two.now.scene.now)
+        (box_of two.now.left.now own.now.whole.now) two.now.right.now.zone.now
+        two.now.right.now.stretch.now) laters.now) }
 {
     for place in 0..laters.len() {
-        let later = &laters[place];
-        add_one(list, kept, scene, left, own, pieces, right, place, later)?;
+        let later = PlacedBox {
+            place,
+            whole: &laters[place],
+        };
+        add_one(list, kept, two, own, &later)?;
     }
     Ok(())
 }
@@ -235,32 +216,33 @@ fn add_each(
 fn add_by(
     list: &mut Vec<Meeting>,
     kept: &mut Vec<PartedLot>,
-    scene: &Scene,
-    left: &Held,
+    two: &TwoStretches,
     own: &ZoneBox,
-    right: &Held,
 ) -> Result<(), AllocError>
-    requires fit { All (All IsFit) scene.now.run.now.items }
-    requires deep { scene.now.job.now.depth ≤ DEPTH_LIMIT }
-    requires kept { AreKept scene.now.job.now scene.now.run.now right.now.zone.now
-        right.now.stretch.now kept.old.items }
-    ensures kept { OnOk result (AreKept scene.now.job.now scene.now.run.now right.now.zone.now
-        right.now.stretch.now kept.new.items) }
+    requires fit { All (All IsFit) two.now.scene.now.run.now.items }
+    requires deep { two.now.scene.now.job.now.depth ≤ DEPTH_LIMIT }
+    requires kept { AreKept two.now.scene.now.job.now two.now.scene.now.run.now two.now.right.now.zone.now
+        two.now.right.now.stretch.now kept.old.items }
+    ensures kept { OnOk result (AreKept two.now.scene.now.job.now two.now.scene.now.run.now two.now.right.now.zone.now
+        two.now.right.now.stretch.now kept.new.items) }
     ensures met { OnOk result (list.new.items ≡ list.old.items
-        ++ model.met_by (record {
-          job = scene.now.job.now;
-          run = scene.now.run.now;
-          before = is_before_in scene.now.clocks.now.rows;
-        }) right.now.zone.now right.now.stretch.now
-        (place_of left.now.zone.now left.now.stretch.now own.now)) }
+        ++ model.met_by (case_of two.now.scene.now) two.now.right.now.zone.now two.now.right.now.stretch.now
+        (box_of two.now.left.now own.now)) }
 {
+    let scene = two.scene;
+    let left = two.left;
+    let right = two.right;
     let other = right.stretch;
     let laters = other.boxes.as_slice();
     if !may_meet_any(left, own, right, laters) {
         return Ok(());
     }
     let pieces = lot_of(scene, left, own)?;
-    add_each(list, kept, scene, left, own, &pieces, right, laters)?;
+    let parted = PartedBox {
+        whole: own,
+        pieces: &pieces,
+    };
+    add_each(list, kept, two, &parted, laters)?;
     Ok(())
 }
 
@@ -268,27 +250,21 @@ fn add_by(
 fn add_owns(
     list: &mut Vec<Meeting>,
     kept: &mut Vec<PartedLot>,
-    scene: &Scene,
-    left: &Held,
+    two: &TwoStretches,
     owns: &[ZoneBox],
-    right: &Held,
 ) -> Result<(), AllocError>
-    requires fit { All (All IsFit) scene.now.run.now.items }
-    requires deep { scene.now.job.now.depth ≤ DEPTH_LIMIT }
-    requires kept { AreKept scene.now.job.now scene.now.run.now right.now.zone.now
-        right.now.stretch.now kept.old.items }
-    ensures kept { OnOk result (AreKept scene.now.job.now scene.now.run.now right.now.zone.now
-        right.now.stretch.now kept.new.items) }
+    requires fit { All (All IsFit) two.now.scene.now.run.now.items }
+    requires deep { two.now.scene.now.job.now.depth ≤ DEPTH_LIMIT }
+    requires kept { AreKept two.now.scene.now.job.now two.now.scene.now.run.now two.now.right.now.zone.now
+        two.now.right.now.stretch.now kept.old.items }
+    ensures kept { OnOk result (AreKept two.now.scene.now.job.now two.now.scene.now.run.now two.now.right.now.zone.now
+        two.now.right.now.stretch.now kept.new.items) }
     ensures met { OnOk result (list.new.items ≡ list.old.items
-        ++ flat_map (λ own. model.met_by (record {
-          job = scene.now.job.now;
-          run = scene.now.run.now;
-          before = is_before_in scene.now.clocks.now.rows;
-        }) right.now.zone.now right.now.stretch.now
-        (place_of left.now.zone.now left.now.stretch.now own)) owns.now) }
+        ++ flat_map (λ own. model.met_by (case_of two.now.scene.now) two.now.right.now.zone.now
+        two.now.right.now.stretch.now (box_of two.now.left.now own)) owns.now) }
 {
     for own in owns {
-        add_by(list, kept, scene, left, own, right)?;
+        add_by(list, kept, two, own)?;
     }
     Ok(())
 }
@@ -297,23 +273,20 @@ fn add_owns(
 fn add_in_boxes(
     list: &mut Vec<Meeting>,
     scene: &Scene,
-    left: &Held,
-    right: &Held,
+    left: &ZoneStretch,
+    right: &ZoneStretch,
 ) -> Result<(), AllocError>
     requires fit { All (All IsFit) scene.now.run.now.items }
     requires deep { scene.now.job.now.depth ≤ DEPTH_LIMIT }
     ensures { OnOk result (list.new.items ≡ list.old.items
-        ++ model.met_in_boxes (record {
-          job = scene.now.job.now;
-          run = scene.now.run.now;
-          before = is_before_in scene.now.clocks.now.rows;
-        }) left.now.zone.now left.now.stretch.now
+        ++ model.met_in_boxes (case_of scene.now) left.now.zone.now left.now.stretch.now
         right.now.zone.now right.now.stretch.now) }
 {
     let stretch = left.stretch;
     let owns = stretch.boxes.as_slice();
     let mut kept = Vec::new(scene.alloc);
-    add_owns(list, &mut kept, scene, left, owns, right)?;
+    let two = TwoStretches { scene, left, right };
+    add_owns(list, &mut kept, &two, owns)?;
     Ok(())
 }
 
@@ -322,17 +295,13 @@ fn add_in_boxes(
 fn add_in_stretches(
     list: &mut Vec<Meeting>,
     scene: &Scene,
-    left: &Held,
-    right: &Held,
+    left: &ZoneStretch,
+    right: &ZoneStretch,
 ) -> Result<(), AllocError>
     requires fit { All (All IsFit) scene.now.run.now.items }
     requires deep { scene.now.job.now.depth ≤ DEPTH_LIMIT }
     ensures { OnOk result (list.new.items ≡ list.old.items
-        ++ model.met_in_stretches (record {
-          job = scene.now.job.now;
-          run = scene.now.run.now;
-          before = is_before_in scene.now.clocks.now.rows;
-        }) left.now.zone.now left.now.stretch.now
+        ++ model.met_in_stretches (case_of scene.now) left.now.zone.now left.now.stretch.now
         right.now.zone.now right.now.stretch.now) }
 {
     if may_overlap(scene.clocks, left.stretch, right.stretch) {
@@ -345,22 +314,18 @@ fn add_in_stretches(
 fn add_against(
     list: &mut Vec<Meeting>,
     scene: &Scene,
-    left: &Held,
+    left: &ZoneStretch,
     other: &ZoneLine,
     others: &[Stretch],
 ) -> Result<(), AllocError>
     requires fit { All (All IsFit) scene.now.run.now.items }
     requires deep { scene.now.job.now.depth ≤ DEPTH_LIMIT }
     ensures { OnOk result (list.new.items ≡ list.old.items
-        ++ flat_map (model.met_in_stretches (record {
-          job = scene.now.job.now;
-          run = scene.now.run.now;
-          before = is_before_in scene.now.clocks.now.rows;
-        }) left.now.zone.now left.now.stretch.now other.now)
+        ++ flat_map (model.met_in_stretches (case_of scene.now) left.now.zone.now left.now.stretch.now other.now)
         others.now) }
 {
     for stretch in others {
-        let right = Held {
+        let right = ZoneStretch {
             zone: other,
             stretch,
         };
@@ -373,26 +338,23 @@ fn add_against(
 fn add_beside(
     list: &mut Vec<Meeting>,
     scene: &Scene,
-    left: &Held,
-    other: &ZoneLine,
-    others: &[Stretch],
-    ascend: bool,
+    left: &ZoneStretch,
+    other: &ListedZone,
     range: &mut Range,
 ) -> Result<(), AllocError>
     requires fit { All (All IsFit) scene.now.run.now.items }
     requires deep { scene.now.job.now.depth ≤ DEPTH_LIMIT }
-    requires passing { ascend ≡ true → (ended : Bool)
-        → PassFirst (passes (is_before_in scene.now.clocks.now.rows) ended left.now.stretch.now) others.now }
+    requires passing { other.now.ascends ≡ true → (ended : Bool)
+        → PassFirst (passes (is_before_in scene.now.clocks.now.rows) ended left.now.stretch.now)
+        other.now.stretches.now }
     ensures { OnOk result (list.new.items ≡ list.old.items
-        ++ flat_map (model.met_in_stretches (record {
-          job = scene.now.job.now;
-          run = scene.now.run.now;
-          before = is_before_in scene.now.clocks.now.rows;
-        }) left.now.zone.now left.now.stretch.now other.now)
-        others.now) }
+        ++ flat_map (model.met_in_stretches (case_of scene.now) left.now.zone.now left.now.stretch.now
+        other.now.zone.now)
+        other.now.stretches.now) }
 {
-    let near = near_part(scene.clocks, left.stretch, others, ascend, range);
-    add_against(list, scene, left, other, near)?;
+    let others = other.stretches;
+    let near = near_part(scene.clocks, left.stretch, others, other.ascends, range);
+    add_against(list, scene, left, other.zone, near)?;
     Ok(())
 }
 
@@ -402,22 +364,22 @@ fn add_in_zones(
     scene: &Scene,
     zone: &ZoneLine,
     owns: &[Stretch],
-    other: &ZoneLine,
-    others: &[Stretch],
+    other: &ListedZone,
 ) -> Result<(), AllocError>
     requires fit { All (All IsFit) scene.now.run.now.items }
     requires deep { scene.now.job.now.depth ≤ DEPTH_LIMIT }
-    requires timed { IsTimed (is_before_in scene.now.clocks.now.rows) (owns.now ∷ (others.now ∷ [])) }
+    requires timed { IsTimed (is_before_in scene.now.clocks.now.rows) (owns.now ∷ (other.now.stretches.now ∷ [])) }
+    requires ascend { other.now.ascends ≡ true
+        → ascents.do_ascend (is_before_in scene.now.clocks.now.rows) other.now.stretches.now ≡ true }
     ensures { OnOk result (list.new.items ≡ list.old.items
         ++ flat_map (λ left. flat_map (model.met_in_stretches
-        (record { job = scene.now.job.now; run = scene.now.run.now; before = is_before_in scene.now.clocks.now.rows })
-        zone.now left other.now) others.now) owns.now) }
+        (case_of scene.now)
+        zone.now left other.now.zone.now) other.now.stretches.now) owns.now) }
 {
-    let ascend = do_ascend(scene.clocks, others);
     let mut range = Range { from: 0, upto: 0 };
     for stretch in owns {
-        let left = Held { zone, stretch };
-        add_beside(list, scene, &left, other, others, ascend, &mut range)?;
+        let left = ZoneStretch { zone, stretch };
+        add_beside(list, scene, &left, other, &mut range)?;
     }
     Ok(())
 }
@@ -428,13 +390,14 @@ fn add_in_row(list: &mut Vec<Meeting>, scene: &Scene, row: &Row) -> Result<(), A
     requires deep { scene.now.job.now.depth ≤ DEPTH_LIMIT }
     requires timed { IsRowTimed (is_before_in scene.now.clocks.now.rows) row.now }
     ensures { OnOk result (list.new.items ≡ list.old.items
-        ++ model.met_in_row (record {
-          job = scene.now.job.now;
-          run = scene.now.run.now;
-          before = is_before_in scene.now.clocks.now.rows;
-        }) row.now) }
+        ++ model.met_in_row (case_of scene.now) row.now) }
 {
-    add_in_zones(list, scene, row.zone, row.owns, row.other, row.others)?;
+    let other = ListedZone {
+        zone: row.other,
+        stretches: row.others,
+        ascends: do_ascend(scene.clocks, row.others),
+    };
+    add_in_zones(list, scene, row.zone, row.owns, &other)?;
     Ok(())
 }
 
@@ -444,11 +407,7 @@ fn met_in(alloc: Global, scene: &Scene, rows: &[Row]) -> Result<Vec<Meeting>, Al
     requires deep { scene.now.job.now.depth ≤ DEPTH_LIMIT }
     requires timed { All (IsRowTimed (is_before_in scene.now.clocks.now.rows)) rows.now }
     ensures { IfOk result (λ met. met.items ≡ flat_map
-        (model.met_in_row (record {
-          job = scene.now.job.now;
-          run = scene.now.run.now;
-          before = is_before_in scene.now.clocks.now.rows;
-        })) rows.now) }
+        (model.met_in_row (case_of scene.now)) rows.now) }
 {
     let mut list = Vec::new(alloc);
     for row in rows {

@@ -4,10 +4,11 @@ ghost use Rattle.std.specs.List.{Any, flat_map, list_any};
 ghost use Rattle.job_lines.specs.declared.limits.TheConstants.{DEPTH_LIMIT};
 ghost use Rattle.job_types.specs.Job.{JobView};
 ghost use Rattle.job_types.specs.SoundJob.{IsSoundJob};
+ghost use Rattle.zone_stretches.specs.Ascents as ascents;
 ghost use Rattle.zone_stretches.specs.Ascents.{IsTimed, PassFirst, passes};
 ghost use Rattle.explain_meetings.specs.KeptBoxes.{AreKept, IsAt};
 ghost use Rattle.explain_meetings.specs.Meetings.{told_place};
-ghost use Rattle.zone_stretches.specs.Cases.{place_of};
+ghost use Rattle.zone_stretches.specs.Cases.{box_of};
 ghost use Rattle.explain_meetings.specs.Nearest as model;
 ghost use Rattle.explain_meetings.specs.NearSteps as steps;
 ghost use Rattle.explain_meetings.specs.PassedOwns.{AreLookedAt};
@@ -19,8 +20,9 @@ ghost use Rattle.zone_stretches.specs.Told.{IsTold};
 ghost use Rattle.zone_stretches.specs.ZoneBoxes.{IsFit};
 ghost use Rattle.sync_types.specs.Views.{RunView};
 
+use crate::contexts::{ListedZone, PartedBox, PlacedBox, Scene, TwoStretches};
 use crate::kept::{are_kept, keep_at, kept_at, lot_of};
-use crate::meetings::{Held, Scene, told_box};
+use crate::meetings::told_box;
 use crate::rows::{Row, rows_of, times_of};
 use axis_sets::{ChannelId, ZoneId};
 use explain_places::Place;
@@ -33,8 +35,8 @@ use std::alloc::{AllocError, Global};
 use swept_boxes::Box3;
 use sync_types::{EventId, Run, StretchKind};
 use zone_stretches::{
-    Range, Stretch, Stretches, ZoneBox, are_compared, do_ascend, may_overlap, motion_at, near_part,
-    share_channel,
+    Range, Stretch, Stretches, ZoneBox, ZoneStretch, are_compared, do_ascend, may_overlap,
+    motion_at, near_part, share_channel,
 };
 
 /// The two compared boxes of two groups that come nearest to each other.
@@ -103,15 +105,20 @@ fn put(rows: &mut Vec<Near>, near: &Near) -> Result<(), AllocError>
 }
 
 /// How near two boxes come that reach so far into each other.
-fn near_of(reach: i64, left: &Held, own: &ZoneBox, right: &Held, later: &ZoneBox) -> Near
+fn near_of(
+    reach: i64,
+    left: &ZoneStretch,
+    own: &ZoneBox,
+    right: &ZoneStretch,
+    later: &ZoneBox,
+) -> Near
     ensures groups { result.groups ≡ model.groups_of (
-      place_of left.now.zone.now left.now.stretch.now own.now,
-      place_of right.now.zone.now
-          right.now.stretch.now later.now,
+      box_of left.now own.now,
+      box_of right.now later.now,
     ) }
     ensures reach { result.reach ≡ reach }
-    ensures left { result.left ≡ told_place (place_of left.now.zone.now left.now.stretch.now own.now) }
-    ensures right { result.right ≡ told_place (place_of right.now.zone.now right.now.stretch.now later.now) }
+    ensures left { result.left ≡ told_place (box_of left.now own.now) }
+    ensures right { result.right ≡ told_place (box_of right.now later.now) }
 {
     Near {
         groups: groups_of(left.zone, right.zone),
@@ -148,11 +155,16 @@ fn reach_in(rows: &[Near], groups: (u8, u8)) -> Option<i64>
 }
 
 /// Whether the covers of two boxes reach further into each other than any row of their groups.
-fn may_be_nearer(rows: &[Near], left: &Held, own: &ZoneBox, right: &Held, later: &ZoneBox) -> bool
+fn may_be_nearer(
+    rows: &[Near],
+    left: &ZoneStretch,
+    own: &ZoneBox,
+    right: &ZoneStretch,
+    later: &ZoneBox,
+) -> bool
     ensures { result ≡ steps.may_be_nearer rows.now (
-      place_of left.now.zone.now left.now.stretch.now own.now,
-      place_of right.now.zone.now
-          right.now.stretch.now later.now,
+      box_of left.now own.now,
+      box_of right.now later.now,
     ) }
 {
     let way = least_way(&own.cover, &later.cover);
@@ -160,8 +172,14 @@ fn may_be_nearer(rows: &[Near], left: &Held, own: &ZoneBox, right: &Held, later:
 }
 
 /// The same of two boxes that are compared.
-fn may_count(rows: &[Near], left: &Held, own: &ZoneBox, right: &Held, later: &ZoneBox) -> bool
-    ensures { result ≡ steps.may_count rows.now (place_of left.now.zone.now left.now.stretch.now own.now)
+fn may_count(
+    rows: &[Near],
+    left: &ZoneStretch,
+    own: &ZoneBox,
+    right: &ZoneStretch,
+    later: &ZoneBox,
+) -> bool
+    ensures { result ≡ steps.may_count rows.now (box_of left.now own.now)
         right.now.zone.now right.now.stretch.now later.now }
 {
     are_compared(share_channel(left.stretch, right.stretch), own, later)
@@ -171,12 +189,12 @@ fn may_count(rows: &[Near], left: &Held, own: &ZoneBox, right: &Held, later: &Zo
 /// The same of a box and one of these of a stretch.
 fn may_any_count(
     rows: &[Near],
-    left: &Held,
+    left: &ZoneStretch,
     own: &ZoneBox,
-    right: &Held,
+    right: &ZoneStretch,
     laters: &[ZoneBox],
 ) -> bool
-    ensures { result ≡ list_any (steps.may_count rows.now (place_of left.now.zone.now left.now.stretch.now own.now)
+    ensures { result ≡ list_any (steps.may_count rows.now (box_of left.now own.now)
         right.now.zone.now right.now.stretch.now) laters.now }
 {
     laters
@@ -188,26 +206,25 @@ fn may_any_count(
 /// their groups, the rows stay as they are.
 fn look_by_pieces(
     rows: &mut Vec<Near>,
-    left: &Held,
-    own: &ZoneBox,
-    pieces: &PartedLot,
-    right: &Held,
-    later: &ZoneBox,
-    others: &PartedLot,
+    two: &TwoStretches,
+    own: &PartedBox,
+    later: &PartedBox,
 ) -> Result<(), AllocError>
     ensures { OnOk result ((job : JobView) → (run : RunView) → (seen : List Pair)
-        → pieces.now ≡ piece_boxes job run (place_of left.now.zone.now left.now.stretch.now own.now)
-        → others.now ≡ piece_boxes job run (place_of right.now.zone.now right.now.stretch.now later.now)
+        → own.now.pieces.now ≡ piece_boxes job run (box_of two.now.left.now own.now.whole.now)
+        → later.now.pieces.now ≡ piece_boxes job run (box_of two.now.right.now later.now.whole.now)
         → model.AreNearest job run seen rows.old.items
         → model.AreNearest job run (seen ++ (
-          place_of left.now.zone.now left.now.stretch.now own.now,
-          place_of
-              right.now.zone.now right.now.stretch.now later.now,
+          box_of two.now.left.now own.now.whole.now,
+          box_of two.now.right.now later.now.whole.now,
         ) ∷ []) rows.new.items) }
 {
+    let left = two.left;
+    let right = two.right;
+    let pieces = own.pieces;
     let so_far = reach_in(rows.as_slice(), groups_of(left.zone, right.zone));
-    if let Some(reach) = pieces.most_over(so_far, others) {
-        let near = near_of(reach, left, own, right, later);
+    if let Some(reach) = pieces.most_over(so_far, later.pieces) {
+        let near = near_of(reach, left, own.whole, right, later.whole);
         put(rows, &near)?;
     }
     Ok(())
@@ -218,40 +235,47 @@ fn look_by_pieces(
 fn look(
     rows: &mut Vec<Near>,
     kept: &mut Vec<PartedLot>,
-    scene: &Scene,
-    left: &Held,
-    own: &ZoneBox,
-    pieces: &PartedLot,
-    right: &Held,
-    place: usize,
-    later: &ZoneBox,
+    two: &TwoStretches,
+    own: &PartedBox,
+    later: &PlacedBox,
 ) -> Result<(), AllocError>
-    requires fit { All (All IsFit) scene.now.run.now.items }
-    requires deep { scene.now.job.now.depth ≤ DEPTH_LIMIT }
-    requires pieces { pieces.now ≡ piece_boxes scene.now.job.now scene.now.run.now
-        (place_of left.now.zone.now left.now.stretch.now own.now) }
-    requires later { IsAt right.now.stretch.now.boxes place later.now }
-    requires kept { AreKept scene.now.job.now scene.now.run.now right.now.zone.now
-        right.now.stretch.now kept.old.items }
-    ensures kept { OnOk result (AreKept scene.now.job.now scene.now.run.now right.now.zone.now
-        right.now.stretch.now kept.new.items) }
+    requires fit { All (All IsFit) two.now.scene.now.run.now.items }
+    requires deep { two.now.scene.now.job.now.depth ≤ DEPTH_LIMIT }
+    requires pieces { own.now.pieces.now ≡ piece_boxes two.now.scene.now.job.now two.now.scene.now.run.now
+        (box_of two.now.left.now own.now.whole.now) }
+    requires later { IsAt two.now.right.now.stretch.now.boxes later.now.place later.now.whole.now }
+    requires kept { AreKept two.now.scene.now.job.now two.now.scene.now.run.now two.now.right.now.zone.now
+        two.now.right.now.stretch.now kept.old.items }
+    ensures kept { OnOk result (AreKept two.now.scene.now.job.now two.now.scene.now.run.now two.now.right.now.zone.now
+        two.now.right.now.stretch.now kept.new.items) }
     ensures near { OnOk result ((seen : List Pair)
-        → model.AreNearest scene.now.job.now scene.now.run.now seen rows.old.items
-        → model.AreNearest scene.now.job.now scene.now.run.now
+        → model.AreNearest two.now.scene.now.job.now two.now.scene.now.run.now seen rows.old.items
+        → model.AreNearest two.now.scene.now.job.now two.now.scene.now.run.now
         (seen ++ (
-          place_of left.now.zone.now left.now.stretch.now own.now,
-          place_of right.now.zone.now
-              right.now.stretch.now later.now,
+          box_of two.now.left.now own.now.whole.now,
+          box_of two.now.right.now later.now.whole.now,
         ) ∷ []) rows.new.items) }
 {
+    let scene = two.scene;
+    let left = two.left;
+    let right = two.right;
+    let place = later.place;
     if are_kept(left, place) {
-        keep_at(kept, scene, right, place, later)?;
+        keep_at(kept, scene, right, place, later.whole)?;
         let others = kept_at(kept.as_slice(), place);
-        look_by_pieces(rows, left, own, pieces, right, later, others)?;
+        let parted = PartedBox {
+            whole: later.whole,
+            pieces: others,
+        };
+        look_by_pieces(rows, two, own, &parted)?;
         return Ok(());
     }
-    let made = lot_of(scene, right, later)?;
-    look_by_pieces(rows, left, own, pieces, right, later, &made)?;
+    let made = lot_of(scene, right, later.whole)?;
+    let parted = PartedBox {
+        whole: later.whole,
+        pieces: &made,
+    };
+    look_by_pieces(rows, two, own, &parted)?;
     Ok(())
 }
 
@@ -260,34 +284,29 @@ fn look(
 fn look_near(
     rows: &mut Vec<Near>,
     kept: &mut Vec<PartedLot>,
-    scene: &Scene,
-    left: &Held,
-    own: &ZoneBox,
-    pieces: &PartedLot,
-    right: &Held,
-    place: usize,
-    later: &ZoneBox,
+    two: &TwoStretches,
+    own: &PartedBox,
+    later: &PlacedBox,
 ) -> Result<(), AllocError>
-    requires fit { All (All IsFit) scene.now.run.now.items }
-    requires deep { scene.now.job.now.depth ≤ DEPTH_LIMIT }
-    requires pieces { pieces.now ≡ piece_boxes scene.now.job.now scene.now.run.now
-        (place_of left.now.zone.now left.now.stretch.now own.now) }
-    requires later { IsAt right.now.stretch.now.boxes place later.now }
-    requires kept { AreKept scene.now.job.now scene.now.run.now right.now.zone.now
-        right.now.stretch.now kept.old.items }
-    ensures kept { OnOk result (AreKept scene.now.job.now scene.now.run.now right.now.zone.now
-        right.now.stretch.now kept.new.items) }
+    requires fit { All (All IsFit) two.now.scene.now.run.now.items }
+    requires deep { two.now.scene.now.job.now.depth ≤ DEPTH_LIMIT }
+    requires pieces { own.now.pieces.now ≡ piece_boxes two.now.scene.now.job.now two.now.scene.now.run.now
+        (box_of two.now.left.now own.now.whole.now) }
+    requires later { IsAt two.now.right.now.stretch.now.boxes later.now.place later.now.whole.now }
+    requires kept { AreKept two.now.scene.now.job.now two.now.scene.now.run.now two.now.right.now.zone.now
+        two.now.right.now.stretch.now kept.old.items }
+    ensures kept { OnOk result (AreKept two.now.scene.now.job.now two.now.scene.now.run.now two.now.right.now.zone.now
+        two.now.right.now.stretch.now kept.new.items) }
     ensures near { OnOk result ((seen : List Pair)
-        → steps.AreNearestSoFar scene.now.job.now scene.now.run.now seen rows.old.items
-        → steps.AreNearestSoFar scene.now.job.now scene.now.run.now
+        → steps.AreNearestSoFar two.now.scene.now.job.now two.now.scene.now.run.now seen rows.old.items
+        → steps.AreNearestSoFar two.now.scene.now.job.now two.now.scene.now.run.now
         (seen ++ (
-          place_of left.now.zone.now left.now.stretch.now own.now,
-          place_of right.now.zone.now
-              right.now.stretch.now later.now,
+          box_of two.now.left.now own.now.whole.now,
+          box_of two.now.right.now later.now.whole.now,
         ) ∷ []) rows.new.items) }
 {
-    if may_be_nearer(rows.as_slice(), left, own, right, later) {
-        look(rows, kept, scene, left, own, pieces, right, place, later)?;
+    if may_be_nearer(rows.as_slice(), two.left, own.whole, two.right, later.whole) {
+        look(rows, kept, two, own, later)?;
     }
     Ok(())
 }
@@ -296,31 +315,31 @@ fn look_near(
 fn look_at(
     rows: &mut Vec<Near>,
     kept: &mut Vec<PartedLot>,
-    scene: &Scene,
-    left: &Held,
-    own: &ZoneBox,
-    pieces: &PartedLot,
-    right: &Held,
-    place: usize,
-    later: &ZoneBox,
+    two: &TwoStretches,
+    own: &PartedBox,
+    later: &PlacedBox,
 ) -> Result<(), AllocError>
-    requires fit { All (All IsFit) scene.now.run.now.items }
-    requires deep { scene.now.job.now.depth ≤ DEPTH_LIMIT }
-    requires pieces { pieces.now ≡ piece_boxes scene.now.job.now scene.now.run.now
-        (place_of left.now.zone.now left.now.stretch.now own.now) }
-    requires later { IsAt right.now.stretch.now.boxes place later.now }
-    requires kept { AreKept scene.now.job.now scene.now.run.now right.now.zone.now
-        right.now.stretch.now kept.old.items }
-    ensures kept { OnOk result (AreKept scene.now.job.now scene.now.run.now right.now.zone.now
-        right.now.stretch.now kept.new.items) }
+    requires fit { All (All IsFit) two.now.scene.now.run.now.items }
+    requires deep { two.now.scene.now.job.now.depth ≤ DEPTH_LIMIT }
+    requires pieces { own.now.pieces.now ≡ piece_boxes two.now.scene.now.job.now two.now.scene.now.run.now
+        (box_of two.now.left.now own.now.whole.now) }
+    requires later { IsAt two.now.right.now.stretch.now.boxes later.now.place later.now.whole.now }
+    requires kept { AreKept two.now.scene.now.job.now two.now.scene.now.run.now two.now.right.now.zone.now
+        two.now.right.now.stretch.now kept.old.items }
+    ensures kept { OnOk result (AreKept two.now.scene.now.job.now two.now.scene.now.run.now two.now.right.now.zone.now
+        two.now.right.now.stretch.now kept.new.items) }
     ensures near { OnOk result ((seen : List Pair)
-        → steps.AreNearestSoFar scene.now.job.now scene.now.run.now seen rows.old.items
-        → steps.AreNearestSoFar scene.now.job.now scene.now.run.now
-        (seen ++ steps.pair_where (place_of left.now.zone.now left.now.stretch.now own.now) right.now.zone.now
-        right.now.stretch.now later.now) rows.new.items) }
+        → steps.AreNearestSoFar two.now.scene.now.job.now two.now.scene.now.run.now seen rows.old.items
+        → steps.AreNearestSoFar two.now.scene.now.job.now two.now.scene.now.run.now
+        (seen ++ steps.pair_where (box_of two.now.left.now own.now.whole.now) two.now.right.now.zone.now
+        two.now.right.now.stretch.now later.now.whole.now) rows.new.items) }
 {
-    if are_compared(share_channel(left.stretch, right.stretch), own, later) {
-        look_near(rows, kept, scene, left, own, pieces, right, place, later)?;
+    let left = two.left;
+    let right = two.right;
+    let whole = own.whole;
+    let other = later.whole;
+    if are_compared(share_channel(left.stretch, right.stretch), whole, other) {
+        look_near(rows, kept, two, own, later)?;
     }
     Ok(())
 }
@@ -329,31 +348,31 @@ fn look_at(
 fn look_each(
     rows: &mut Vec<Near>,
     kept: &mut Vec<PartedLot>,
-    scene: &Scene,
-    left: &Held,
-    own: &ZoneBox,
-    pieces: &PartedLot,
-    right: &Held,
+    two: &TwoStretches,
+    own: &PartedBox,
     laters: &[ZoneBox],
 ) -> Result<(), AllocError>
-    requires fit { All (All IsFit) scene.now.run.now.items }
-    requires deep { scene.now.job.now.depth ≤ DEPTH_LIMIT }
-    requires pieces { pieces.now ≡ piece_boxes scene.now.job.now scene.now.run.now
-        (place_of left.now.zone.now left.now.stretch.now own.now) }
-    requires laters { laters.now ≡ right.now.stretch.now.boxes }
-    requires kept { AreKept scene.now.job.now scene.now.run.now right.now.zone.now
-        right.now.stretch.now kept.old.items }
-    ensures kept { OnOk result (AreKept scene.now.job.now scene.now.run.now right.now.zone.now
-        right.now.stretch.now kept.new.items) }
+    requires fit { All (All IsFit) two.now.scene.now.run.now.items }
+    requires deep { two.now.scene.now.job.now.depth ≤ DEPTH_LIMIT }
+    requires pieces { own.now.pieces.now ≡ piece_boxes two.now.scene.now.job.now two.now.scene.now.run.now
+        (box_of two.now.left.now own.now.whole.now) }
+    requires laters { laters.now ≡ two.now.right.now.stretch.now.boxes }
+    requires kept { AreKept two.now.scene.now.job.now two.now.scene.now.run.now two.now.right.now.zone.now
+        two.now.right.now.stretch.now kept.old.items }
+    ensures kept { OnOk result (AreKept two.now.scene.now.job.now two.now.scene.now.run.now two.now.right.now.zone.now
+        two.now.right.now.stretch.now kept.new.items) }
     ensures near { OnOk result ((seen : List Pair)
-        → steps.AreNearestSoFar scene.now.job.now scene.now.run.now seen rows.old.items
-        → steps.AreNearestSoFar scene.now.job.now scene.now.run.now
-        (seen ++ flat_map (steps.pair_where (place_of left.now.zone.now left.now.stretch.now own.now)
-        right.now.zone.now right.now.stretch.now) laters.now) rows.new.items) }
+        → steps.AreNearestSoFar two.now.scene.now.job.now two.now.scene.now.run.now seen rows.old.items
+        → steps.AreNearestSoFar two.now.scene.now.job.now two.now.scene.now.run.now
+        (seen ++ flat_map (steps.pair_where (box_of two.now.left.now own.now.whole.now)
+        two.now.right.now.zone.now two.now.right.now.stretch.now) laters.now) rows.new.items) }
 {
     for place in 0..laters.len() {
-        let later = &laters[place];
-        look_at(rows, kept, scene, left, own, pieces, right, place, later)?;
+        let later = PlacedBox {
+            place,
+            whole: &laters[place],
+        };
+        look_at(rows, kept, two, own, &later)?;
     }
     Ok(())
 }
@@ -362,30 +381,35 @@ fn look_each(
 fn look_anew(
     rows: &mut Vec<Near>,
     kept: &mut Vec<PartedLot>,
-    scene: &Scene,
-    left: &Held,
+    two: &TwoStretches,
     own: &ZoneBox,
-    right: &Held,
 ) -> Result<(), AllocError>
-    requires fit { All (All IsFit) scene.now.run.now.items }
-    requires deep { scene.now.job.now.depth ≤ DEPTH_LIMIT }
-    requires kept { AreKept scene.now.job.now scene.now.run.now right.now.zone.now
-        right.now.stretch.now kept.old.items }
-    ensures kept { OnOk result (AreKept scene.now.job.now scene.now.run.now right.now.zone.now
-        right.now.stretch.now kept.new.items) }
+    requires fit { All (All IsFit) two.now.scene.now.run.now.items }
+    requires deep { two.now.scene.now.job.now.depth ≤ DEPTH_LIMIT }
+    requires kept { AreKept two.now.scene.now.job.now two.now.scene.now.run.now two.now.right.now.zone.now
+        two.now.right.now.stretch.now kept.old.items }
+    ensures kept { OnOk result (AreKept two.now.scene.now.job.now two.now.scene.now.run.now two.now.right.now.zone.now
+        two.now.right.now.stretch.now kept.new.items) }
     ensures near { OnOk result ((seen : List Pair)
-        → steps.AreNearestSoFar scene.now.job.now scene.now.run.now seen rows.old.items
-        → steps.AreNearestSoFar scene.now.job.now scene.now.run.now
-        (seen ++ steps.pairs_by right.now.zone.now right.now.stretch.now
-        (place_of left.now.zone.now left.now.stretch.now own.now)) rows.new.items) }
+        → steps.AreNearestSoFar two.now.scene.now.job.now two.now.scene.now.run.now seen rows.old.items
+        → steps.AreNearestSoFar two.now.scene.now.job.now two.now.scene.now.run.now
+        (seen ++ steps.pairs_by two.now.right.now.zone.now two.now.right.now.stretch.now
+        (box_of two.now.left.now own.now)) rows.new.items) }
 {
+    let scene = two.scene;
+    let left = two.left;
+    let right = two.right;
     let other = right.stretch;
     let laters = other.boxes.as_slice();
     if !may_any_count(rows.as_slice(), left, own, right, laters) {
         return Ok(());
     }
     let pieces = lot_of(scene, left, own)?;
-    look_each(rows, kept, scene, left, own, &pieces, right, laters)?;
+    let parted = PartedBox {
+        whole: own,
+        pieces: &pieces,
+    };
+    look_each(rows, kept, two, &parted, laters)?;
     Ok(())
 }
 
@@ -394,30 +418,33 @@ fn look_by(
     rows: &mut Vec<Near>,
     kept: &mut Vec<PartedLot>,
     passed: &mut PassedBoxes,
-    scene: &Scene,
-    left: &Held,
+    two: &TwoStretches,
     own: &ZoneBox,
-    right: &Held,
 ) -> Result<(), AllocError>
-    requires fit { All (All IsFit) scene.now.run.now.items }
-    requires deep { scene.now.job.now.depth ≤ DEPTH_LIMIT }
-    requires kept { AreKept scene.now.job.now scene.now.run.now right.now.zone.now
-        right.now.stretch.now kept.old.items }
-    ensures kept { OnOk result (AreKept scene.now.job.now scene.now.run.now right.now.zone.now
-        right.now.stretch.now kept.new.items) }
+    requires fit { All (All IsFit) two.now.scene.now.run.now.items }
+    requires deep { two.now.scene.now.job.now.depth ≤ DEPTH_LIMIT }
+    requires kept { AreKept two.now.scene.now.job.now two.now.scene.now.run.now two.now.right.now.zone.now
+        two.now.right.now.stretch.now kept.old.items }
+    ensures kept { OnOk result (AreKept two.now.scene.now.job.now two.now.scene.now.run.now two.now.right.now.zone.now
+        two.now.right.now.stretch.now kept.new.items) }
     ensures near { OnOk result ((seen : List Pair)
-        → AreLookedAt scene.now.job.now scene.now.run.now left.now.zone.now right.now.zone.now right.now.stretch.now
+        → AreLookedAt two.now.scene.now.job.now two.now.scene.now.run.now two.now.left.now.zone.now
+        two.now.right.now.zone.now two.now.right.now.stretch.now
         seen rows.old.items passed.old
-        → AreLookedAt scene.now.job.now scene.now.run.now left.now.zone.now right.now.zone.now right.now.stretch.now
-        (seen ++ steps.pairs_by right.now.zone.now right.now.stretch.now
-        (place_of left.now.zone.now left.now.stretch.now own.now)) rows.new.items passed.new) }
+        → AreLookedAt two.now.scene.now.job.now two.now.scene.now.run.now two.now.left.now.zone.now
+        two.now.right.now.zone.now two.now.right.now.stretch.now
+        (seen ++ steps.pairs_by two.now.right.now.zone.now two.now.right.now.stretch.now
+        (box_of two.now.left.now own.now)) rows.new.items passed.new) }
 {
+    let scene = two.scene;
+    let left = two.left;
+    let right = two.right;
     let stretch = left.stretch;
     let motion = motion_at(scene.run, stretch.entry, own.motion);
     if passed.has(&own.cover, motion) {
         return Ok(());
     }
-    look_anew(rows, kept, scene, left, own, right)?;
+    look_anew(rows, kept, two, own)?;
     if !share_channel(left.stretch, right.stretch) {
         passed.keep(&own.cover, motion);
     }
@@ -429,26 +456,26 @@ fn look_owns(
     rows: &mut Vec<Near>,
     kept: &mut Vec<PartedLot>,
     passed: &mut PassedBoxes,
-    scene: &Scene,
-    left: &Held,
+    two: &TwoStretches,
     owns: &[ZoneBox],
-    right: &Held,
 ) -> Result<(), AllocError>
-    requires fit { All (All IsFit) scene.now.run.now.items }
-    requires deep { scene.now.job.now.depth ≤ DEPTH_LIMIT }
-    requires kept { AreKept scene.now.job.now scene.now.run.now right.now.zone.now
-        right.now.stretch.now kept.old.items }
-    ensures kept { OnOk result (AreKept scene.now.job.now scene.now.run.now right.now.zone.now
-        right.now.stretch.now kept.new.items) }
+    requires fit { All (All IsFit) two.now.scene.now.run.now.items }
+    requires deep { two.now.scene.now.job.now.depth ≤ DEPTH_LIMIT }
+    requires kept { AreKept two.now.scene.now.job.now two.now.scene.now.run.now two.now.right.now.zone.now
+        two.now.right.now.stretch.now kept.old.items }
+    ensures kept { OnOk result (AreKept two.now.scene.now.job.now two.now.scene.now.run.now two.now.right.now.zone.now
+        two.now.right.now.stretch.now kept.new.items) }
     ensures near { OnOk result ((seen : List Pair)
-        → AreLookedAt scene.now.job.now scene.now.run.now left.now.zone.now right.now.zone.now right.now.stretch.now
+        → AreLookedAt two.now.scene.now.job.now two.now.scene.now.run.now two.now.left.now.zone.now
+        two.now.right.now.zone.now two.now.right.now.stretch.now
         seen rows.old.items passed.old
-        → AreLookedAt scene.now.job.now scene.now.run.now left.now.zone.now right.now.zone.now right.now.stretch.now
-        (seen ++ flat_map (λ own. steps.pairs_by right.now.zone.now right.now.stretch.now
-        (place_of left.now.zone.now left.now.stretch.now own)) owns.now) rows.new.items passed.new) }
+        → AreLookedAt two.now.scene.now.job.now two.now.scene.now.run.now two.now.left.now.zone.now
+        two.now.right.now.zone.now two.now.right.now.stretch.now
+        (seen ++ flat_map (λ own. steps.pairs_by two.now.right.now.zone.now two.now.right.now.stretch.now
+        (box_of two.now.left.now own)) owns.now) rows.new.items passed.new) }
 {
     for own in owns {
-        look_by(rows, kept, passed, scene, left, own, right)?;
+        look_by(rows, kept, passed, two, own)?;
     }
     Ok(())
 }
@@ -457,8 +484,8 @@ fn look_owns(
 fn look_in_boxes(
     rows: &mut Vec<Near>,
     scene: &Scene,
-    left: &Held,
-    right: &Held,
+    left: &ZoneStretch,
+    right: &ZoneStretch,
 ) -> Result<(), AllocError>
     requires fit { All (All IsFit) scene.now.run.now.items }
     requires deep { scene.now.job.now.depth ≤ DEPTH_LIMIT }
@@ -472,7 +499,8 @@ fn look_in_boxes(
     let owns = stretch.boxes.as_slice();
     let mut kept = Vec::new(scene.alloc);
     let mut passed = PassedBoxes::new(scene.alloc);
-    look_owns(rows, &mut kept, &mut passed, scene, left, owns, right)?;
+    let two = TwoStretches { scene, left, right };
+    look_owns(rows, &mut kept, &mut passed, &two, owns)?;
     Ok(())
 }
 
@@ -480,8 +508,8 @@ fn look_in_boxes(
 fn look_in_stretches(
     rows: &mut Vec<Near>,
     scene: &Scene,
-    left: &Held,
-    right: &Held,
+    left: &ZoneStretch,
+    right: &ZoneStretch,
 ) -> Result<(), AllocError>
     requires fit { All (All IsFit) scene.now.run.now.items }
     requires deep { scene.now.job.now.depth ≤ DEPTH_LIMIT }
@@ -501,7 +529,7 @@ fn look_in_stretches(
 fn look_against(
     rows: &mut Vec<Near>,
     scene: &Scene,
-    left: &Held,
+    left: &ZoneStretch,
     other: &ZoneLine,
     others: &[Stretch],
 ) -> Result<(), AllocError>
@@ -514,7 +542,7 @@ fn look_against(
         left.now.stretch.now other.now) others.now) rows.new.items) }
 {
     for stretch in others {
-        let right = Held {
+        let right = ZoneStretch {
             zone: other,
             stretch,
         };
@@ -527,24 +555,24 @@ fn look_against(
 fn look_beside(
     rows: &mut Vec<Near>,
     scene: &Scene,
-    left: &Held,
-    other: &ZoneLine,
-    others: &[Stretch],
-    ascend: bool,
+    left: &ZoneStretch,
+    other: &ListedZone,
     range: &mut Range,
 ) -> Result<(), AllocError>
     requires fit { All (All IsFit) scene.now.run.now.items }
     requires deep { scene.now.job.now.depth ≤ DEPTH_LIMIT }
-    requires passing { ascend ≡ true → (ended : Bool)
-        → PassFirst (passes (is_before_in scene.now.clocks.now.rows) ended left.now.stretch.now) others.now }
+    requires passing { other.now.ascends ≡ true → (ended : Bool)
+        → PassFirst (passes (is_before_in scene.now.clocks.now.rows) ended left.now.stretch.now)
+        other.now.stretches.now }
     ensures { OnOk result ((seen : List Pair)
         → steps.AreNearestSoFar scene.now.job.now scene.now.run.now seen rows.old.items
         → steps.AreNearestSoFar scene.now.job.now scene.now.run.now
         (seen ++ flat_map (stretch_pairs (is_before_in scene.now.clocks.now.rows) left.now.zone.now
-        left.now.stretch.now other.now) others.now) rows.new.items) }
+        left.now.stretch.now other.now.zone.now) other.now.stretches.now) rows.new.items) }
 {
-    let near = near_part(scene.clocks, left.stretch, others, ascend, range);
-    look_against(rows, scene, left, other, near)?;
+    let others = other.stretches;
+    let near = near_part(scene.clocks, left.stretch, others, other.ascends, range);
+    look_against(rows, scene, left, other.zone, near)?;
     Ok(())
 }
 
@@ -554,23 +582,23 @@ fn look_in_zones(
     scene: &Scene,
     zone: &ZoneLine,
     owns: &[Stretch],
-    other: &ZoneLine,
-    others: &[Stretch],
+    other: &ListedZone,
 ) -> Result<(), AllocError>
     requires fit { All (All IsFit) scene.now.run.now.items }
     requires deep { scene.now.job.now.depth ≤ DEPTH_LIMIT }
-    requires timed { IsTimed (is_before_in scene.now.clocks.now.rows) (owns.now ∷ (others.now ∷ [])) }
+    requires timed { IsTimed (is_before_in scene.now.clocks.now.rows) (owns.now ∷ (other.now.stretches.now ∷ [])) }
+    requires ascend { other.now.ascends ≡ true
+        → ascents.do_ascend (is_before_in scene.now.clocks.now.rows) other.now.stretches.now ≡ true }
     ensures { OnOk result ((seen : List Pair)
         → steps.AreNearestSoFar scene.now.job.now scene.now.run.now seen rows.old.items
         → steps.AreNearestSoFar scene.now.job.now scene.now.run.now
         (seen ++ flat_map (λ left. flat_map (stretch_pairs (is_before_in scene.now.clocks.now.rows) zone.now left
-        other.now) others.now) owns.now) rows.new.items) }
+        other.now.zone.now) other.now.stretches.now) owns.now) rows.new.items) }
 {
-    let ascend = do_ascend(scene.clocks, others);
     let mut range = Range { from: 0, upto: 0 };
     for stretch in owns {
-        let left = Held { zone, stretch };
-        look_beside(rows, scene, &left, other, others, ascend, &mut range)?;
+        let left = ZoneStretch { zone, stretch };
+        look_beside(rows, scene, &left, other, &mut range)?;
     }
     Ok(())
 }
@@ -585,7 +613,12 @@ fn look_in_row(near: &mut Vec<Near>, scene: &Scene, row: &Row) -> Result<(), All
         → steps.AreNearestSoFar scene.now.job.now scene.now.run.now
         (seen ++ row_pairs (is_before_in scene.now.clocks.now.rows) row.now) near.new.items) }
 {
-    look_in_zones(near, scene, row.zone, row.owns, row.other, row.others)?;
+    let other = ListedZone {
+        zone: row.other,
+        stretches: row.others,
+        ascends: do_ascend(scene.clocks, row.others),
+    };
+    look_in_zones(near, scene, row.zone, row.owns, &other)?;
     Ok(())
 }
 

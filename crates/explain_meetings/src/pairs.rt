@@ -11,8 +11,8 @@ ghost use Rattle.order_clocks.specs.Tells.{is_before_in};
 ghost use Rattle.zone_stretches.specs.Told.{IsTold};
 ghost use Rattle.zone_stretches.specs.ZoneBoxes.{IsFit};
 
+use crate::contexts::Scene;
 use crate::counts::count_in;
-use crate::meetings::Scene;
 use crate::nearest::{Near, nearest_in};
 use crate::rows::{Time, add_zones, rest, times_of};
 use axis_sets::{ChannelId, ZoneId};

@@ -9,4 +9,4 @@ pub returns : goal.returns
 returns c =
     c.count_against.ensures
     ∙ ap (λ (ps : List Pair). capped (length ps))
-    (near_pairs (is_before_in c.args.clocks.now.rows) c.args.left.now.zone.now c.args.left.now.stretch.now c.args.other.now c.near_part-near.result.now c.args.others.now c.near_part-near.ensures)
+    (near_pairs (is_before_in c.args.clocks.now.rows) c.args.left.now.zone.now c.args.left.now.stretch.now c.args.other.now.zone.now c.near_part-near.result.now c.args.other.now.stretches.now c.near_part-near.ensures)

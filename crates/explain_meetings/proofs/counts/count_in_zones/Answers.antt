@@ -10,17 +10,17 @@ use Rattle.explain_meetings.proofs.counts.count_in_zones.Goals as goal
 
 pub count_beside-requires : goal.count_beside-requires
 count_beside-requires c ascend ended =
-    subst (λ (x : StretchView). PassFirst (passes (is_before_in c.args.clocks.now.rows) ended x) c.args.others.now) (sym c.stretch-item.is)
-    (passing_at (is_before_in c.args.clocks.now.rows) c.args.owns.now c.args.others.now c.loop-stretch.stretch-index c.stretch-item.result c.requires (sym c.do_ascend-ascend.ensures ∙ ascend) c.loop-stretch-test.true ended)
+    subst (λ (x : StretchView). PassFirst (passes (is_before_in c.args.clocks.now.rows) ended x) c.args.other.now.stretches.now) (sym c.stretch-item.is)
+    (passing_at (is_before_in c.args.clocks.now.rows) c.args.owns.now c.args.other.now.stretches.now c.loop-stretch.stretch-index c.stretch-item.result c.requires.timed (c.requires.ascend ascend) c.loop-stretch-test.true ended)
 
 pub loop-stretch-preserved : goal.loop-stretch-preserved
 loop-stretch-preserved c =
-    let found : StretchView → ℕ = λ left. length (flat_map (stretch_pairs (is_before_in c.args.clocks.now.rows) c.args.zone.now left c.args.other.now) c.args.others.now) in
+    let found : StretchView → ℕ = λ left. length (flat_map (stretch_pairs (is_before_in c.args.clocks.now.rows) c.args.zone.now left c.args.other.now.zone.now) c.args.other.now.stretches.now) in
     counted_more found c.args.owns.now c.loop-stretch.stretch-index c.stretch-item.result c.loop-stretch.count c.count_beside.result c.saturating_add-count.result c.loop-stretch-test.true c.stretch-item.is
     c.count_beside.ensures c.saturating_add-count.ensures c.loop-stretch.invariant
 
 pub returns : goal.returns
 returns c =
-    let found : StretchView → List Pair = λ left. flat_map (stretch_pairs (is_before_in c.args.clocks.now.rows) c.args.zone.now left c.args.other.now) c.args.others.now in
+    let found : StretchView → List Pair = λ left. flat_map (stretch_pairs (is_before_in c.args.clocks.now.rows) c.args.zone.now left c.args.other.now.zone.now) c.args.other.now.stretches.now in
     counted_all (λ (left : StretchView). length (found left)) c.args.owns.now c.loop-stretch.stretch-index c.loop-stretch.count (omega arith) c.loop-stretch.invariant
     ∙ sum_is found c.args.owns.now

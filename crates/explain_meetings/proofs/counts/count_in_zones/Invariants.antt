@@ -7,4 +7,4 @@ use Rattle.explain_meetings.proofs.counts.count_in_zones.Given as goal
 
 abbrev pub invariant-loop-stretch : goal.invariant-loop-stretch
 invariant-loop-stretch l =
-    l.count ≡ capped (sum_by (λ left. length (flat_map (stretch_pairs (is_before_in l.clocks.rows) l.zone left l.other) l.others)) (take l.stretch-index l.owns))
+    l.count ≡ capped (sum_by (λ left. length (flat_map (stretch_pairs (is_before_in l.clocks.rows) l.zone left l.other.zone.now) l.other.stretches.now)) (take l.stretch-index l.owns))

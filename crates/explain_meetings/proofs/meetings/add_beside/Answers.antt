@@ -9,4 +9,4 @@ pub returns : goal.returns
 returns c =
     let case : Case = record { job = c.args.scene.now.job.now; run = c.args.scene.now.run.now; before = is_before_in c.args.scene.now.clocks.now.rows } in
     c.in_ok-add_against.ensures
-    ∙ ap (λ (more : List Meeting). c.args.list.now.items ++ more) (near_met case c.args.left.now.zone.now c.args.left.now.stretch.now c.args.other.now c.near_part-near.result.now c.args.others.now c.near_part-near.ensures)
+    ∙ ap (λ (more : List Meeting). c.args.list.now.items ++ more) (near_met case c.args.left.now.zone.now c.args.left.now.stretch.now c.args.other.now.zone.now c.near_part-near.result.now c.args.other.now.stretches.now c.near_part-near.ensures)

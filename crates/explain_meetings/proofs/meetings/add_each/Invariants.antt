@@ -8,7 +8,7 @@ use Rattle.explain_meetings.proofs.meetings.add_each.Given as goal
 
 abbrev pub invariant-loop-place : goal.invariant-loop-place
 invariant-loop-place l = record {
-  met : l.list.items ++ flat_map (model.met_one (record { job = l.scene.job.now; run = l.scene.run.now; before = is_before_in l.scene.clocks.now.rows }) (place_of l.left.zone.now l.left.stretch.now l.own) l.right.zone.now l.right.stretch.now) (drop l.place l.laters)
-      ≡ l.initial.list.items ++ flat_map (model.met_one (record { job = l.scene.job.now; run = l.scene.run.now; before = is_before_in l.scene.clocks.now.rows }) (place_of l.left.zone.now l.left.stretch.now l.own) l.right.zone.now l.right.stretch.now) l.laters;
-  kept : AreKept l.scene.job.now l.scene.run.now l.right.zone.now l.right.stretch.now l.kept.items;
+  met : l.list.items ++ flat_map (model.met_one (record { job = l.two.scene.now.job.now; run = l.two.scene.now.run.now; before = is_before_in l.two.scene.now.clocks.now.rows }) (place_of l.two.left.now.zone.now l.two.left.now.stretch.now l.own.whole.now) l.two.right.now.zone.now l.two.right.now.stretch.now) (drop l.place l.laters)
+      ≡ l.initial.list.items ++ flat_map (model.met_one (record { job = l.two.scene.now.job.now; run = l.two.scene.now.run.now; before = is_before_in l.two.scene.now.clocks.now.rows }) (place_of l.two.left.now.zone.now l.two.left.now.stretch.now l.own.whole.now) l.two.right.now.zone.now l.two.right.now.stretch.now) l.laters;
+  kept : AreKept l.two.scene.now.job.now l.two.scene.now.run.now l.two.right.now.zone.now l.two.right.now.stretch.now l.kept.items;
 }

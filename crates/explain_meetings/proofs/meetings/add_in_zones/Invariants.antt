@@ -6,5 +6,5 @@ use Rattle.explain_meetings.proofs.meetings.add_in_zones.Given as goal
 
 abbrev pub invariant-loop-stretch : goal.invariant-loop-stretch
 invariant-loop-stretch l =
-    l.list.items ++ flat_map (λ left. flat_map (model.met_in_stretches (record { job = l.scene.job.now; run = l.scene.run.now; before = is_before_in l.scene.clocks.now.rows }) l.zone left l.other) l.others) (drop l.stretch-index l.owns)
-    ≡ l.initial.list.items ++ flat_map (λ left. flat_map (model.met_in_stretches (record { job = l.scene.job.now; run = l.scene.run.now; before = is_before_in l.scene.clocks.now.rows }) l.zone left l.other) l.others) l.owns
+    l.list.items ++ flat_map (λ left. flat_map (model.met_in_stretches (record { job = l.scene.job.now; run = l.scene.run.now; before = is_before_in l.scene.clocks.now.rows }) l.zone left l.other.zone.now) l.other.stretches.now) (drop l.stretch-index l.owns)
+    ≡ l.initial.list.items ++ flat_map (λ left. flat_map (model.met_in_stretches (record { job = l.scene.job.now; run = l.scene.run.now; before = is_before_in l.scene.clocks.now.rows }) l.zone left l.other.zone.now) l.other.stretches.now) l.owns

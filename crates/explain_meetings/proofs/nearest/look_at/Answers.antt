@@ -8,16 +8,16 @@ use Rattle.explain_meetings.proofs.nearest.look_at.Goals as goal
 pub returns-in_ok-look_near-clause-near : goal.returns-in_ok-look_near-clause-near
 unfolding pair_where
 returns-in_ok-look_near-clause-near c seen are =
-    let pair : Pair = (place_of c.args.left.now.zone.now c.args.left.now.stretch.now c.args.own.now, place_of c.args.right.now.zone.now c.args.right.now.stretch.now c.args.later.now) in
-    let on : are_compared c.args.left.now.stretch.now c.args.right.now.stretch.now c.args.own.now c.args.later.now ≡ true =
-    ap (λ (b : Bool). not b || share_place c.args.own.now c.args.later.now) (sym c.share_channel.ensures) ∙ sym c.are_compared.ensures ∙ c.if-are_compared.true in
-    subst (λ (b : Bool). AreNearestSoFar c.args.scene.now.job.now c.args.scene.now.run.now (seen ++ cond b (pair ∷ []) []) c.look_near.new.rows.items) (sym on) (c.in_ok-look_near.ensures.near seen are)
+    let pair : Pair = (place_of c.args.two.now.left.now.zone.now c.args.two.now.left.now.stretch.now c.args.own.now.whole.now, place_of c.args.two.now.right.now.zone.now c.args.two.now.right.now.stretch.now c.args.later.now.whole.now) in
+    let on : are_compared c.args.two.now.left.now.stretch.now c.args.two.now.right.now.stretch.now c.args.own.now.whole.now c.args.later.now.whole.now ≡ true =
+    ap (λ (b : Bool). not b || share_place c.args.own.now.whole.now c.args.later.now.whole.now) (sym c.share_channel.ensures) ∙ sym c.are_compared.ensures ∙ c.if-are_compared.true in
+    subst (λ (b : Bool). AreNearestSoFar c.args.two.now.scene.now.job.now c.args.two.now.scene.now.run.now (seen ++ cond b (pair ∷ []) []) c.look_near.new.rows.items) (sym on) (c.in_ok-look_near.ensures.near seen are)
 
 pub returns-else-are_compared-clause-near : goal.returns-else-are_compared-clause-near
 unfolding pair_where
 returns-else-are_compared-clause-near c seen are =
-    let pair : Pair = (place_of c.args.left.now.zone.now c.args.left.now.stretch.now c.args.own.now, place_of c.args.right.now.zone.now c.args.right.now.stretch.now c.args.later.now) in
-    let off : are_compared c.args.left.now.stretch.now c.args.right.now.stretch.now c.args.own.now c.args.later.now ≡ false =
-    ap (λ (b : Bool). not b || share_place c.args.own.now c.args.later.now) (sym c.share_channel.ensures) ∙ sym c.are_compared.ensures ∙ c.if-are_compared.false in
-    subst (λ (b : Bool). AreNearestSoFar c.args.scene.now.job.now c.args.scene.now.run.now (seen ++ cond b (pair ∷ []) []) c.args.rows.now.items) (sym off)
-    (subst (λ (ps : List Pair). AreNearestSoFar c.args.scene.now.job.now c.args.scene.now.run.now ps c.args.rows.now.items) (sym (append-nil seen)) are)
+    let pair : Pair = (place_of c.args.two.now.left.now.zone.now c.args.two.now.left.now.stretch.now c.args.own.now.whole.now, place_of c.args.two.now.right.now.zone.now c.args.two.now.right.now.stretch.now c.args.later.now.whole.now) in
+    let off : are_compared c.args.two.now.left.now.stretch.now c.args.two.now.right.now.stretch.now c.args.own.now.whole.now c.args.later.now.whole.now ≡ false =
+    ap (λ (b : Bool). not b || share_place c.args.own.now.whole.now c.args.later.now.whole.now) (sym c.share_channel.ensures) ∙ sym c.are_compared.ensures ∙ c.if-are_compared.false in
+    subst (λ (b : Bool). AreNearestSoFar c.args.two.now.scene.now.job.now c.args.two.now.scene.now.run.now (seen ++ cond b (pair ∷ []) []) c.args.rows.now.items) (sym off)
+    (subst (λ (ps : List Pair). AreNearestSoFar c.args.two.now.scene.now.job.now c.args.two.now.scene.now.run.now ps c.args.rows.now.items) (sym (append-nil seen)) are)

@@ -14,37 +14,37 @@ use Rattle.explain_meetings.proofs.nearest.look_by.Goals as goal
 
 pub returns-then-has-clause-near : goal.returns-then-has-clause-near
 returns-then-has-clause-near c seen so_far covers =
-    let left : BoxPlace = place_of c.args.left.now.zone.now c.args.left.now.stretch.now c.args.own.now in
-    let new : List Pair = pairs_by c.args.right.now.zone.now c.args.right.now.stretch.now left in
-    let before = so_far (part_left (λ (p : Pair). IsInCover c.args.scene.now.job.now c.args.scene.now.run.now p.0 × IsInCover c.args.scene.now.job.now c.args.scene.now.run.now p.1) seen new covers) in
-    let on = c.has.ensures.passes c.if-has.true (reaches_no_further c.args.scene.now.job.now c.args.scene.now.run.now c.args.rows.now.items left.zone c.args.right.now.zone.now c.args.right.now.stretch.now) before.1 in (
-      passed_again c.args.scene.now.job.now c.args.scene.now.run.now left c.args.right.now.zone.now c.args.right.now.stretch.now seen c.args.rows.now.items
-          (subst (λ (motion : Option Motion). reaches_no_further c.args.scene.now.job.now c.args.scene.now.run.now c.args.rows.now.items left.zone c.args.right.now.zone.now c.args.right.now.stretch.now c.args.own.now.cover motion ≡ true)
-          (c.motion_at-motion.ensures ∙ ap (λ (s : StretchView). motion_at c.args.scene.now.run.now s.entry c.args.own.now.motion) c.stretch.view_is) on) before.0,
+    let left : BoxPlace = place_of c.args.two.now.left.now.zone.now c.args.two.now.left.now.stretch.now c.args.own.now in
+    let new : List Pair = pairs_by c.args.two.now.right.now.zone.now c.args.two.now.right.now.stretch.now left in
+    let before = so_far (part_left (λ (p : Pair). IsInCover c.args.two.now.scene.now.job.now c.args.two.now.scene.now.run.now p.0 × IsInCover c.args.two.now.scene.now.job.now c.args.two.now.scene.now.run.now p.1) seen new covers) in
+    let on = c.has.ensures.passes c.if-has.true (reaches_no_further c.args.two.now.scene.now.job.now c.args.two.now.scene.now.run.now c.args.rows.now.items left.zone c.args.two.now.right.now.zone.now c.args.two.now.right.now.stretch.now) before.1 in (
+      passed_again c.args.two.now.scene.now.job.now c.args.two.now.scene.now.run.now left c.args.two.now.right.now.zone.now c.args.two.now.right.now.stretch.now seen c.args.rows.now.items
+          (subst (λ (motion : Option Motion). reaches_no_further c.args.two.now.scene.now.job.now c.args.two.now.scene.now.run.now c.args.rows.now.items left.zone c.args.two.now.right.now.zone.now c.args.two.now.right.now.stretch.now c.args.own.now.cover motion ≡ true)
+          (c.motion_at-motion.ensures ∙ ap (λ (s : StretchView). motion_at c.args.two.now.scene.now.run.now s.entry c.args.own.now.motion) c.stretch.view_is) on) before.0,
       before.1,
     )
 
 pub returns-then-not-share_channel-clause-near : goal.returns-then-not-share_channel-clause-near
 returns-then-not-share_channel-clause-near c seen so_far covers =
-    let left : BoxPlace = place_of c.args.left.now.zone.now c.args.left.now.stretch.now c.args.own.now in
-    let new : List Pair = pairs_by c.args.right.now.zone.now c.args.right.now.stretch.now left in
-    let so_far_covers = part_left (λ (p : Pair). IsInCover c.args.scene.now.job.now c.args.scene.now.run.now p.0 × IsInCover c.args.scene.now.job.now c.args.scene.now.run.now p.1) seen new covers in
+    let left : BoxPlace = place_of c.args.two.now.left.now.zone.now c.args.two.now.left.now.stretch.now c.args.own.now in
+    let new : List Pair = pairs_by c.args.two.now.right.now.zone.now c.args.two.now.right.now.stretch.now left in
+    let so_far_covers = part_left (λ (p : Pair). IsInCover c.args.two.now.scene.now.job.now c.args.two.now.scene.now.run.now p.0 × IsInCover c.args.two.now.scene.now.job.now c.args.two.now.scene.now.run.now p.1) seen new covers in
     let before = so_far so_far_covers in
-    let now : AreNearest c.args.scene.now.job.now c.args.scene.now.run.now (seen ++ new) c.look_anew.new.rows.items = c.in_ok-look_anew.ensures.near seen (λ cs. (so_far cs).0) covers in
-    let apart : share_channel left.stretch.name.channel c.args.right.now.stretch.now.name.channel ≡ false = sym c.share_channel.ensures ∙ c.if-not-share_channel.true in
-    let own = passed_now c.args.scene.now.job.now c.args.scene.now.run.now left c.args.right.now.zone.now c.args.right.now.stretch.now apart seen c.look_anew.new.rows.items now in
-    let stay = passed_stay c.args.scene.now.job.now c.args.scene.now.run.now seen c.args.rows.now.items before.0 new c.look_anew.new.rows.items now left.zone c.args.right.now.zone.now c.args.right.now.stretch.now c.args.passed.now before.1 in (
+    let now : AreNearest c.args.two.now.scene.now.job.now c.args.two.now.scene.now.run.now (seen ++ new) c.look_anew.new.rows.items = c.in_ok-look_anew.ensures.near seen (λ cs. (so_far cs).0) covers in
+    let apart : share_channel left.stretch.name.channel c.args.two.now.right.now.stretch.now.name.channel ≡ false = sym c.share_channel.ensures ∙ c.if-not-share_channel.true in
+    let own = passed_now c.args.two.now.scene.now.job.now c.args.two.now.scene.now.run.now left c.args.two.now.right.now.zone.now c.args.two.now.right.now.stretch.now apart seen c.look_anew.new.rows.items now in
+    let stay = passed_stay c.args.two.now.scene.now.job.now c.args.two.now.scene.now.run.now seen c.args.rows.now.items before.0 new c.look_anew.new.rows.items now left.zone c.args.two.now.right.now.zone.now c.args.two.now.right.now.stretch.now c.args.passed.now before.1 in (
       now,
-      c.keep.ensures.passes (reaches_no_further c.args.scene.now.job.now c.args.scene.now.run.now c.look_anew.new.rows.items left.zone c.args.right.now.zone.now c.args.right.now.stretch.now) stay
-          (subst (λ (motion : Option Motion). reaches_no_further c.args.scene.now.job.now c.args.scene.now.run.now c.look_anew.new.rows.items left.zone c.args.right.now.zone.now c.args.right.now.stretch.now c.args.own.now.cover motion ≡ true)
-          (sym (c.motion_at-motion.ensures ∙ ap (λ (s : StretchView). motion_at c.args.scene.now.run.now s.entry c.args.own.now.motion) c.stretch.view_is)) own),
+      c.keep.ensures.passes (reaches_no_further c.args.two.now.scene.now.job.now c.args.two.now.scene.now.run.now c.look_anew.new.rows.items left.zone c.args.two.now.right.now.zone.now c.args.two.now.right.now.stretch.now) stay
+          (subst (λ (motion : Option Motion). reaches_no_further c.args.two.now.scene.now.job.now c.args.two.now.scene.now.run.now c.look_anew.new.rows.items left.zone c.args.two.now.right.now.zone.now c.args.two.now.right.now.stretch.now c.args.own.now.cover motion ≡ true)
+          (sym (c.motion_at-motion.ensures ∙ ap (λ (s : StretchView). motion_at c.args.two.now.scene.now.run.now s.entry c.args.own.now.motion) c.stretch.view_is)) own),
     )
 
 pub returns-else-not-share_channel-clause-near : goal.returns-else-not-share_channel-clause-near
 returns-else-not-share_channel-clause-near c seen so_far covers =
-    let left : BoxPlace = place_of c.args.left.now.zone.now c.args.left.now.stretch.now c.args.own.now in
-    let new : List Pair = pairs_by c.args.right.now.zone.now c.args.right.now.stretch.now left in
-    let so_far_covers = part_left (λ (p : Pair). IsInCover c.args.scene.now.job.now c.args.scene.now.run.now p.0 × IsInCover c.args.scene.now.job.now c.args.scene.now.run.now p.1) seen new covers in
+    let left : BoxPlace = place_of c.args.two.now.left.now.zone.now c.args.two.now.left.now.stretch.now c.args.own.now in
+    let new : List Pair = pairs_by c.args.two.now.right.now.zone.now c.args.two.now.right.now.stretch.now left in
+    let so_far_covers = part_left (λ (p : Pair). IsInCover c.args.two.now.scene.now.job.now c.args.two.now.scene.now.run.now p.0 × IsInCover c.args.two.now.scene.now.job.now c.args.two.now.scene.now.run.now p.1) seen new covers in
     let before = so_far so_far_covers in
-    let now : AreNearest c.args.scene.now.job.now c.args.scene.now.run.now (seen ++ new) c.look_anew.new.rows.items = c.in_ok-look_anew.ensures.near seen (λ cs. (so_far cs).0) covers in
-    (now, passed_stay c.args.scene.now.job.now c.args.scene.now.run.now seen c.args.rows.now.items before.0 new c.look_anew.new.rows.items now left.zone c.args.right.now.zone.now c.args.right.now.stretch.now c.args.passed.now before.1)
+    let now : AreNearest c.args.two.now.scene.now.job.now c.args.two.now.scene.now.run.now (seen ++ new) c.look_anew.new.rows.items = c.in_ok-look_anew.ensures.near seen (λ cs. (so_far cs).0) covers in
+    (now, passed_stay c.args.two.now.scene.now.job.now c.args.two.now.scene.now.run.now seen c.args.rows.now.items before.0 new c.look_anew.new.rows.items now left.zone c.args.two.now.right.now.zone.now c.args.two.now.right.now.stretch.now c.args.passed.now before.1)

@@ -8,7 +8,7 @@ use Rattle.explain_meetings.proofs.nearest.look_each.Given as goal
 
 abbrev pub invariant-loop-place : goal.invariant-loop-place
 invariant-loop-place l = record {
-  near : (seen : List Pair) → AreNearestSoFar l.scene.job.now l.scene.run.now seen l.initial.rows.items
-      → AreNearestSoFar l.scene.job.now l.scene.run.now (seen ++ flat_map (pair_where (place_of l.left.zone.now l.left.stretch.now l.own) l.right.zone.now l.right.stretch.now) (take l.place l.laters)) l.rows.items;
-  kept : AreKept l.scene.job.now l.scene.run.now l.right.zone.now l.right.stretch.now l.kept.items;
+  near : (seen : List Pair) → AreNearestSoFar l.two.scene.now.job.now l.two.scene.now.run.now seen l.initial.rows.items
+      → AreNearestSoFar l.two.scene.now.job.now l.two.scene.now.run.now (seen ++ flat_map (pair_where (place_of l.two.left.now.zone.now l.two.left.now.stretch.now l.own.whole.now) l.two.right.now.zone.now l.two.right.now.stretch.now) (take l.place l.laters)) l.rows.items;
+  kept : AreKept l.two.scene.now.job.now l.two.scene.now.run.now l.two.right.now.zone.now l.two.right.now.stretch.now l.kept.items;
 }

@@ -9,8 +9,8 @@ use Rattle.explain_meetings.proofs.nearest.look_owns.Given as goal
 
 abbrev pub invariant-loop-own : goal.invariant-loop-own
 invariant-loop-own l = record {
-  near : (seen : List Pair) → AreLookedAt l.scene.job.now l.scene.run.now l.left.zone.now l.right.zone.now l.right.stretch.now seen l.initial.rows.items l.initial.passed
-      → AreLookedAt l.scene.job.now l.scene.run.now l.left.zone.now l.right.zone.now l.right.stretch.now
-      (seen ++ flat_map (λ own. pairs_by l.right.zone.now l.right.stretch.now (place_of l.left.zone.now l.left.stretch.now own)) (take l.own-index l.owns)) l.rows.items l.passed;
-  kept : AreKept l.scene.job.now l.scene.run.now l.right.zone.now l.right.stretch.now l.kept.items;
+  near : (seen : List Pair) → AreLookedAt l.two.scene.now.job.now l.two.scene.now.run.now l.two.left.now.zone.now l.two.right.now.zone.now l.two.right.now.stretch.now seen l.initial.rows.items l.initial.passed
+      → AreLookedAt l.two.scene.now.job.now l.two.scene.now.run.now l.two.left.now.zone.now l.two.right.now.zone.now l.two.right.now.stretch.now
+      (seen ++ flat_map (λ own. pairs_by l.two.right.now.zone.now l.two.right.now.stretch.now (place_of l.two.left.now.zone.now l.two.left.now.stretch.now own)) (take l.own-index l.owns)) l.rows.items l.passed;
+  kept : AreKept l.two.scene.now.job.now l.two.scene.now.run.now l.two.right.now.zone.now l.two.right.now.stretch.now l.kept.items;
 }
