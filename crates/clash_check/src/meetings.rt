@@ -27,8 +27,8 @@ use job_types::ZoneLine;
 use passed_boxes::PassedBoxes;
 use sync_types::PlaceName;
 use zone_stretches::{
-    Range, Stretch, TimedZone, ZoneBox, ZoneStretch, boxes_by_pieces, may_overlap, motion_at, part,
-    range_of, share_channel, start_walk,
+    IndexRange, Stretch, TimedZone, ZoneBox, ZoneStretch, boxes_by_pieces, may_overlap, motion_at,
+    part, range_of, share_channel, start_walk,
 };
 
 /// How a box of a stretch is named.
@@ -255,7 +255,7 @@ fn first_in_places(
         boxes.now }
 {
     let scene = two.scene;
-    let mut range = Range { from: 0, upto: 0 };
+    let mut range = IndexRange { from: 0, upto: 0 };
     for own in boxes {
         range = place_range(own, others, range);
         let near = part(others, range);
@@ -369,7 +369,7 @@ fn first_of_shown(
     scene: &Scene,
     left: &ZoneStretch,
     other: &ShownZone,
-    range: Range,
+    range: IndexRange,
     memory: &mut Memory,
 ) -> Option<(PlaceName, PlaceName)>
     requires fit { All (All IsFit) scene.now.run.now.items }
@@ -407,7 +407,7 @@ fn first_in_range(
     scene: &Scene,
     left: &ZoneStretch,
     other: &ShownZone,
-    range: Range,
+    range: IndexRange,
     memory: &mut Memory,
 ) -> Option<(PlaceName, PlaceName)>
     requires fit { All (All IsFit) scene.now.run.now.items }
@@ -463,8 +463,8 @@ fn first_of_ascending<'a>(
 ) -> Option<(PlaceName, PlaceName)>
     requires fit { All (All IsFit) scene.now.run.now.items }
     requires timed { IsTimed (case_of scene.now).before (own.now ∷ (other.now.stretches.now ∷ [])) }
-    requires own_ascend { own_ascends ≡ true → ascents.do_ascend (case_of scene.now).before own.now ≡ true }
-    requires ascend { ascents.do_ascend (case_of scene.now).before other.now.stretches.now ≡ true }
+    requires own_ascend { own_ascends ≡ true → ascents.is_chain (case_of scene.now).before own.now ≡ true }
+    requires ascend { ascents.is_chain (case_of scene.now).before other.now.stretches.now ≡ true }
     requires next { IsNext other.now.stretches.now other.now.next.now }
     ensures { result ≡ first_some (model.first_against (case_of scene.now) zone.now
         (record { zone = other.now.zone.now; stretches = other.now.stretches.now })) own.now }

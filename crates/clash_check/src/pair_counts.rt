@@ -18,7 +18,7 @@ use axis_sets::CHANNEL_PLACES;
 use job_types::Job;
 use order_clocks::Clocks;
 use zone_stretches::{
-    Range, Stretch, Stretches, TimedZone, TimedZones, ZoneBox, may_overlap, range_of,
+    IndexRange, Stretch, Stretches, TimedZone, TimedZones, ZoneBox, may_overlap, range_of,
     share_channel, share_place, start_walk,
 };
 
@@ -53,7 +53,7 @@ fn count_sharing_places(left: &[ZoneBox], right: &[ZoneBox]) -> u64
     requires { places.do_boxes_ascend right.now ≡ true }
     ensures { result ≡ model.capped (model.count_sharing left.now right.now) }
 {
-    let mut range = Range { from: 0, upto: 0 };
+    let mut range = IndexRange { from: 0, upto: 0 };
     let mut count: u64 = 0;
     for own in left {
         range = place_range(own, right, range);
@@ -130,8 +130,8 @@ fn count_all(clocks: &Clocks, own: &[Stretch], others: &[Stretch]) -> u64
 /// at with those alone that it may overlap.
 fn count_ascending(clocks: &Clocks, own: &[Stretch], others: &[Stretch], own_ascends: bool) -> u64
     requires timed { IsTimed (is_before_in clocks.now.rows) (own.now ∷ (others.now ∷ [])) }
-    requires own_ascend { own_ascends ≡ true → orders.do_ascend (is_before_in clocks.now.rows) own.now ≡ true }
-    requires ascend { orders.do_ascend (is_before_in clocks.now.rows) others.now ≡ true }
+    requires own_ascend { own_ascends ≡ true → orders.is_chain (is_before_in clocks.now.rows) own.now ≡ true }
+    requires ascend { orders.is_chain (is_before_in clocks.now.rows) others.now ≡ true }
     ensures { result ≡ model.capped (sum_by (model.count_against (is_before_in clocks.now.rows) others.now) own.now) }
 {
     let mut walk = start_walk(clocks, own, others, own_ascends);

@@ -4,7 +4,7 @@ ghost use Rattle.clash_check.specs.PlaceRanges as model;
 ghost use Rattle.zone_stretches.specs.Ascents.{PassFirst, leading};
 ghost use Rattle.std.specs.Prelude.{◌≡◌, ◌+◌, ◌-◌, ◌<◌, ◌≤◌, not, Bool, true, false, drop, take, length};
 
-use zone_stretches::{Range, ZoneBox};
+use zone_stretches::{IndexRange, ZoneBox};
 
 /// Whether a box neither begins nor ends after the one of this place, if there is one.
 fn is_by_at(own: &ZoneBox, boxes: &[ZoneBox], place: usize) -> bool
@@ -71,13 +71,13 @@ fn count_passing(ended: bool, own: &ZoneBox, others: &[ZoneBox], hint: usize) ->
 }
 
 /// The places of the boxes that hold a place in common with this one, found from those of an earlier box.
-pub(crate) fn place_range(own: &ZoneBox, others: &[ZoneBox], hint: Range) -> Range
+pub(crate) fn place_range(own: &ZoneBox, others: &[ZoneBox], hint: IndexRange) -> IndexRange
     requires { (ended : Bool) → PassFirst (model.passes_place ended own.now) others.now }
     ensures within { result.upto ≤ length others.now }
     ensures from { result.from ≡ leading (model.passes_place true own.now) others.now }
     ensures upto { result.upto ≡ leading (model.passes_place false own.now) others.now }
 {
-    Range {
+    IndexRange {
         from: count_passing(true, own, others, hint.from),
         upto: count_passing(false, own, others, hint.upto),
     }

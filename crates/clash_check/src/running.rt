@@ -9,7 +9,7 @@ ghost use Rattle.std.specs.Prelude.{◌≡◌, ℕ, ◌+◌, ◌<◌, ◌≤◌,
 use crate::pair_counts::count_against;
 use axis_sets::CHANNEL_PLACES;
 use order_clocks::Clocks;
-use zone_stretches::{Range, Stretch, part};
+use zone_stretches::{IndexRange, Stretch, part};
 
 /// How many boxes the stretches before a place have, or the greatest `u64` where they have more.
 #[derive(Clone, Copy)]
@@ -97,7 +97,7 @@ pub(crate) fn count_in_range(
     clocks: &Clocks,
     left: &Stretch,
     others: &[Stretch],
-    range: Range,
+    range: IndexRange,
     sums: &Sums,
 ) -> u64
     requires passing { (ended : Bool) → ascents.PassFirst

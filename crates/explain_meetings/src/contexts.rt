@@ -1,6 +1,6 @@
 //! What is looked at together while boxes of two zones are compared.
 
-use explain_reach::PartedLot;
+use explain_reach::PartedBoxes;
 use job_types::{Job, ZoneLine};
 use order_clocks::Clocks;
 use std::alloc::Global;
@@ -48,7 +48,7 @@ pub(crate) struct PartedBox<'a> {
     /// The box.
     pub(crate) whole: &'a ZoneBox,
     /// The boxes by which it is compared.
-    pub(crate) pieces: &'a PartedLot,
+    pub(crate) pieces: &'a PartedBoxes,
 }
 
 /// A box of a stretch, with its place there.

@@ -14,7 +14,7 @@ use crate::rows::Row;
 use job_types::ZoneLine;
 use order_clocks::Clocks;
 use zone_stretches::{
-    Range, Stretch, ZoneBox, ZoneStretch, do_ascend, may_overlap, near_part, share_channel,
+    IndexRange, Stretch, ZoneBox, ZoneStretch, is_chain, may_overlap, near_part, share_channel,
     share_place,
 };
 
@@ -84,7 +84,12 @@ fn count_against(clocks: &Clocks, left: &ZoneStretch, other: &ZoneLine, others: 
 }
 
 /// The same of all stretches of another zone. Where these ascend, those alone are looked at that may overlap the stretch.
-fn count_beside(clocks: &Clocks, left: &ZoneStretch, other: &ListedZone, range: &mut Range) -> u64
+fn count_beside(
+    clocks: &Clocks,
+    left: &ZoneStretch,
+    other: &ListedZone,
+    range: &mut IndexRange,
+) -> u64
     requires { other.now.ascends ≡ true → (ended : Bool)
         → PassFirst (passes (is_before_in clocks.now.rows) ended left.now.stretch.now) other.now.stretches.now }
     ensures { result ≡ capped (length (flat_map
@@ -100,13 +105,13 @@ fn count_beside(clocks: &Clocks, left: &ZoneStretch, other: &ListedZone, range: 
 fn count_in_zones(clocks: &Clocks, zone: &ZoneLine, owns: &[Stretch], other: &ListedZone) -> u64
     requires timed { IsTimed (is_before_in clocks.now.rows) (owns.now ∷ (other.now.stretches.now ∷ [])) }
     requires ascend { other.now.ascends ≡ true
-        → ascents.do_ascend (is_before_in clocks.now.rows) other.now.stretches.now ≡ true }
+        → ascents.is_chain (is_before_in clocks.now.rows) other.now.stretches.now ≡ true }
     ensures { result ≡ capped (length (flat_map
         (λ left. flat_map (stretch_pairs (is_before_in clocks.now.rows) zone.now left other.now.zone.now)
         other.now.stretches.now)
         owns.now)) }
 {
-    let mut range = Range { from: 0, upto: 0 };
+    let mut range = IndexRange { from: 0, upto: 0 };
     let mut count: u64 = 0;
     for stretch in owns {
         let left = ZoneStretch { zone, stretch };
@@ -123,7 +128,7 @@ fn count_in_row(clocks: &Clocks, row: &Row) -> u64
     let other = ListedZone {
         zone: row.other,
         stretches: row.others,
-        ascends: do_ascend(clocks, row.others),
+        ascends: is_chain(clocks, row.others),
     };
     count_in_zones(clocks, row.zone, row.owns, &other)
 }

@@ -12,7 +12,7 @@ ghost use Rattle.zone_stretches.specs.Stretches.{StretchView};
 ghost use Rattle.zone_stretches.specs.ZoneBoxes.{IsFit};
 
 use crate::contexts::Scene;
-use explain_reach::PartedLot;
+use explain_reach::PartedBoxes;
 use std::alloc::{AllocError, Global};
 use zone_stretches::{ZoneBox, ZoneStretch, boxes_by_pieces};
 
@@ -32,13 +32,13 @@ pub(crate) fn are_kept(left: &ZoneStretch, place: usize) -> bool
 }
 
 /// Adds places of which nothing is kept, until there are as many as this.
-fn have_places(alloc: Global, kept: &mut Vec<PartedLot>, count: usize) -> Result<(), AllocError>
+fn have_places(alloc: Global, kept: &mut Vec<PartedBoxes>, count: usize) -> Result<(), AllocError>
     ensures places { OnOk result (count ≤ length kept.new.items) }
     ensures kept { OnOk result ((job : JobView) → (run : RunView) → (zone : ZoneLine) → (stretch : StretchView)
         → AreKept job run zone stretch kept.old.items → AreKept job run zone stretch kept.new.items) }
 {
     for place in kept.len()..count {
-        kept.push(PartedLot::new(alloc))?;
+        kept.push(PartedBoxes::new(alloc))?;
     }
     Ok(())
 }
@@ -48,19 +48,19 @@ pub(crate) fn lot_of(
     scene: &Scene,
     held: &ZoneStretch,
     own: &ZoneBox,
-) -> Result<PartedLot, AllocError>
+) -> Result<PartedBoxes, AllocError>
     requires fit { All (All IsFit) scene.now.run.now.items }
     requires deep { scene.now.job.now.depth ≤ DEPTH_LIMIT }
     ensures { IfOk result (λ made. made ≡ piece_boxes scene.now.job.now scene.now.run.now
         (box_of held.now own.now)) }
 {
     let boxes = boxes_by_pieces(scene.job, scene.run, held.zone, held.stretch, own);
-    PartedLot::over(scene.alloc, boxes.as_slice())
+    PartedBoxes::over(scene.alloc, boxes.as_slice())
 }
 
 /// Makes the boxes of a place.
 fn make_at(
-    kept: &mut Vec<PartedLot>,
+    kept: &mut Vec<PartedBoxes>,
     scene: &Scene,
     right: &ZoneStretch,
     place: usize,
@@ -83,7 +83,7 @@ fn make_at(
 
 /// Makes the boxes of a place, where none are kept.
 fn make_once(
-    kept: &mut Vec<PartedLot>,
+    kept: &mut Vec<PartedBoxes>,
     scene: &Scene,
     right: &ZoneStretch,
     place: usize,
@@ -110,7 +110,7 @@ fn make_once(
 
 /// Keeps the boxes of a place: they are made, where none are kept.
 pub(crate) fn keep_at(
-    kept: &mut Vec<PartedLot>,
+    kept: &mut Vec<PartedBoxes>,
     scene: &Scene,
     right: &ZoneStretch,
     place: usize,
@@ -135,7 +135,7 @@ pub(crate) fn keep_at(
 }
 
 /// The boxes kept at a place.
-pub(crate) fn kept_at(kept: &[PartedLot], place: usize) -> &PartedLot
+pub(crate) fn kept_at(kept: &[PartedBoxes], place: usize) -> &PartedBoxes
     requires { place < length kept.now }
     ensures { (P : List Box3) → ((made : List Box3) → IsKeptAt kept.now place made → made ≡ P) → result.now ≡ P }
 {

@@ -23,7 +23,7 @@ use crate::kept::{are_kept, keep_at, kept_at, lot_of};
 use crate::rows::{Row, rows_of, times_of};
 use axis_sets::{ChannelId, ZoneId};
 use explain_places::{Meeting, Place};
-use explain_reach::PartedLot;
+use explain_reach::PartedBoxes;
 use job_types::{Job, ZoneLine};
 use order_clocks::Clocks;
 use out_of_memory::NoMemory;
@@ -31,7 +31,7 @@ use std::alloc::{AllocError, Global};
 use swept_boxes::Box3;
 use sync_types::{EventId, PlaceName, Run, StretchKind};
 use zone_stretches::{
-    Range, Stretch, Stretches, ZoneBox, ZoneStretch, are_compared, do_ascend, may_overlap,
+    IndexRange, Stretch, Stretches, ZoneBox, ZoneStretch, are_compared, is_chain, may_overlap,
     near_part, share_channel,
 };
 
@@ -135,7 +135,7 @@ fn add_by_pieces(
 /// two may meet, and kept where they are to be.
 fn add_one(
     list: &mut Vec<Meeting>,
-    kept: &mut Vec<PartedLot>,
+    kept: &mut Vec<PartedBoxes>,
     two: &TwoStretches,
     own: &PartedBox,
     later: &PlacedBox,
@@ -183,7 +183,7 @@ fn add_one(
 /// Adds a box with some of a stretch that it meets; these are the boxes by which the first is compared.
 fn add_each(
     list: &mut Vec<Meeting>,
-    kept: &mut Vec<PartedLot>,
+    kept: &mut Vec<PartedBoxes>,
     two: &TwoStretches,
     own: &PartedBox,
     laters: &[ZoneBox],
@@ -215,7 +215,7 @@ fn add_each(
 /// Adds a box with those of a stretch that it meets. The boxes by which it is compared are made once, where it may meet any.
 fn add_by(
     list: &mut Vec<Meeting>,
-    kept: &mut Vec<PartedLot>,
+    kept: &mut Vec<PartedBoxes>,
     two: &TwoStretches,
     own: &ZoneBox,
 ) -> Result<(), AllocError>
@@ -249,7 +249,7 @@ fn add_by(
 /// Adds some boxes of a stretch and those of another that meet.
 fn add_owns(
     list: &mut Vec<Meeting>,
-    kept: &mut Vec<PartedLot>,
+    kept: &mut Vec<PartedBoxes>,
     two: &TwoStretches,
     owns: &[ZoneBox],
 ) -> Result<(), AllocError>
@@ -340,7 +340,7 @@ fn add_beside(
     scene: &Scene,
     left: &ZoneStretch,
     other: &ListedZone,
-    range: &mut Range,
+    range: &mut IndexRange,
 ) -> Result<(), AllocError>
     requires fit { All (All IsFit) scene.now.run.now.items }
     requires deep { scene.now.job.now.depth ≤ DEPTH_LIMIT }
@@ -370,13 +370,13 @@ fn add_in_zones(
     requires deep { scene.now.job.now.depth ≤ DEPTH_LIMIT }
     requires timed { IsTimed (is_before_in scene.now.clocks.now.rows) (owns.now ∷ (other.now.stretches.now ∷ [])) }
     requires ascend { other.now.ascends ≡ true
-        → ascents.do_ascend (is_before_in scene.now.clocks.now.rows) other.now.stretches.now ≡ true }
+        → ascents.is_chain (is_before_in scene.now.clocks.now.rows) other.now.stretches.now ≡ true }
     ensures { OnOk result (list.new.items ≡ list.old.items
         ++ flat_map (λ left. flat_map (model.met_in_stretches
         (case_of scene.now)
         zone.now left other.now.zone.now) other.now.stretches.now) owns.now) }
 {
-    let mut range = Range { from: 0, upto: 0 };
+    let mut range = IndexRange { from: 0, upto: 0 };
     for stretch in owns {
         let left = ZoneStretch { zone, stretch };
         add_beside(list, scene, &left, other, &mut range)?;
@@ -395,7 +395,7 @@ fn add_in_row(list: &mut Vec<Meeting>, scene: &Scene, row: &Row) -> Result<(), A
     let other = ListedZone {
         zone: row.other,
         stretches: row.others,
-        ascends: do_ascend(scene.clocks, row.others),
+        ascends: is_chain(scene.clocks, row.others),
     };
     add_in_zones(list, scene, row.zone, row.owns, &other)?;
     Ok(())

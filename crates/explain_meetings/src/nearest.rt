@@ -26,7 +26,7 @@ use crate::meetings::told_box;
 use crate::rows::{Row, rows_of, times_of};
 use axis_sets::{ChannelId, ZoneId};
 use explain_places::Place;
-use explain_reach::{PartedLot, least_way};
+use explain_reach::{PartedBoxes, least_way};
 use job_types::{Job, ZoneLine};
 use order_clocks::Clocks;
 use out_of_memory::NoMemory;
@@ -35,7 +35,7 @@ use std::alloc::{AllocError, Global};
 use swept_boxes::Box3;
 use sync_types::{EventId, Run, StretchKind};
 use zone_stretches::{
-    Range, Stretch, Stretches, ZoneBox, ZoneStretch, are_compared, do_ascend, may_overlap,
+    IndexRange, Stretch, Stretches, ZoneBox, ZoneStretch, are_compared, is_chain, may_overlap,
     motion_at, near_part, share_channel,
 };
 
@@ -223,7 +223,7 @@ fn look_by_pieces(
     let right = two.right;
     let pieces = own.pieces;
     let so_far = reach_in(rows.as_slice(), groups_of(left.zone, right.zone));
-    if let Some(reach) = pieces.most_over(so_far, later.pieces) {
+    if let Some(reach) = pieces.greatest_overlap(so_far, later.pieces) {
         let near = near_of(reach, left, own.whole, right, later.whole);
         put(rows, &near)?;
     }
@@ -234,7 +234,7 @@ fn look_by_pieces(
 /// are to be.
 fn look(
     rows: &mut Vec<Near>,
-    kept: &mut Vec<PartedLot>,
+    kept: &mut Vec<PartedBoxes>,
     two: &TwoStretches,
     own: &PartedBox,
     later: &PlacedBox,
@@ -283,7 +283,7 @@ fn look(
 /// compared lie in their covers, so they reach no further than these.
 fn look_near(
     rows: &mut Vec<Near>,
-    kept: &mut Vec<PartedLot>,
+    kept: &mut Vec<PartedBoxes>,
     two: &TwoStretches,
     own: &PartedBox,
     later: &PlacedBox,
@@ -314,7 +314,7 @@ fn look_near(
 /// Looks at two boxes, where they are compared.
 fn look_at(
     rows: &mut Vec<Near>,
-    kept: &mut Vec<PartedLot>,
+    kept: &mut Vec<PartedBoxes>,
     two: &TwoStretches,
     own: &PartedBox,
     later: &PlacedBox,
@@ -347,7 +347,7 @@ fn look_at(
 /// Looks at a box with some of a stretch; these are the boxes by which the first is compared.
 fn look_each(
     rows: &mut Vec<Near>,
-    kept: &mut Vec<PartedLot>,
+    kept: &mut Vec<PartedBoxes>,
     two: &TwoStretches,
     own: &PartedBox,
     laters: &[ZoneBox],
@@ -380,7 +380,7 @@ fn look_each(
 /// Looks at a box with those of a stretch. The boxes by which it is compared are made once, where any may be nearer.
 fn look_anew(
     rows: &mut Vec<Near>,
-    kept: &mut Vec<PartedLot>,
+    kept: &mut Vec<PartedBoxes>,
     two: &TwoStretches,
     own: &ZoneBox,
 ) -> Result<(), AllocError>
@@ -416,7 +416,7 @@ fn look_anew(
 /// Looks at a box with those of a stretch. An equal box of an equal motion that was looked at with all of them is passed over.
 fn look_by(
     rows: &mut Vec<Near>,
-    kept: &mut Vec<PartedLot>,
+    kept: &mut Vec<PartedBoxes>,
     passed: &mut PassedBoxes,
     two: &TwoStretches,
     own: &ZoneBox,
@@ -454,7 +454,7 @@ fn look_by(
 /// Looks at some boxes of a stretch and those of another.
 fn look_owns(
     rows: &mut Vec<Near>,
-    kept: &mut Vec<PartedLot>,
+    kept: &mut Vec<PartedBoxes>,
     passed: &mut PassedBoxes,
     two: &TwoStretches,
     owns: &[ZoneBox],
@@ -557,7 +557,7 @@ fn look_beside(
     scene: &Scene,
     left: &ZoneStretch,
     other: &ListedZone,
-    range: &mut Range,
+    range: &mut IndexRange,
 ) -> Result<(), AllocError>
     requires fit { All (All IsFit) scene.now.run.now.items }
     requires deep { scene.now.job.now.depth ≤ DEPTH_LIMIT }
@@ -588,14 +588,14 @@ fn look_in_zones(
     requires deep { scene.now.job.now.depth ≤ DEPTH_LIMIT }
     requires timed { IsTimed (is_before_in scene.now.clocks.now.rows) (owns.now ∷ (other.now.stretches.now ∷ [])) }
     requires ascend { other.now.ascends ≡ true
-        → ascents.do_ascend (is_before_in scene.now.clocks.now.rows) other.now.stretches.now ≡ true }
+        → ascents.is_chain (is_before_in scene.now.clocks.now.rows) other.now.stretches.now ≡ true }
     ensures { OnOk result ((seen : List Pair)
         → steps.AreNearestSoFar scene.now.job.now scene.now.run.now seen rows.old.items
         → steps.AreNearestSoFar scene.now.job.now scene.now.run.now
         (seen ++ flat_map (λ left. flat_map (stretch_pairs (is_before_in scene.now.clocks.now.rows) zone.now left
         other.now.zone.now) other.now.stretches.now) owns.now) rows.new.items) }
 {
-    let mut range = Range { from: 0, upto: 0 };
+    let mut range = IndexRange { from: 0, upto: 0 };
     for stretch in owns {
         let left = ZoneStretch { zone, stretch };
         look_beside(rows, scene, &left, other, &mut range)?;
@@ -616,7 +616,7 @@ fn look_in_row(near: &mut Vec<Near>, scene: &Scene, row: &Row) -> Result<(), All
     let other = ListedZone {
         zone: row.other,
         stretches: row.others,
-        ascends: do_ascend(scene.clocks, row.others),
+        ascends: is_chain(scene.clocks, row.others),
     };
     look_in_zones(near, scene, row.zone, row.owns, &other)?;
     Ok(())

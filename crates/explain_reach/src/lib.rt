@@ -13,6 +13,6 @@ mod ways;
 pub use commons::common_box;
 pub use depths::parting_depth;
 pub use lots::most_near;
-pub use parted::PartedLot;
+pub use parted::PartedBoxes;
 pub use rooms::{margin_room, room_of};
 pub use ways::{Way, least_way};

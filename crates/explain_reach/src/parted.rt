@@ -165,13 +165,13 @@ fn have_boxes(parts: &[Part]) -> bool
 /// A lot of boxes in their order, divided into parts once, with a box in which all of them lie. The covers of the parts stand side by
 /// side: most parts are passed over by these alone.
 #[derive(Drop)]
-pub struct PartedLot {
+pub struct PartedBoxes {
     parts: Vec<Part>,
     covers: Vec<Box3>,
     cover: Box3,
 }
 
-impl Model for PartedLot {
+impl Model for PartedBoxes {
     ghost use Rattle.std.specs.Prelude.{All, List};
     ghost use Rattle.std.specs.List.{flat_map};
     ghost use Rattle.explain_reach.specs.Parts.{AreCovers, IsCovered, LiesIn, boxes_in};
@@ -185,12 +185,12 @@ impl Model for PartedLot {
         × All (LiesIn lot.cover) (flat_map boxes_in lot.parts.items) };
 }
 
-impl PartedLot {
+impl PartedBoxes {
     /// No boxes. It takes no memory.
-    pub fn new(alloc: Global) -> PartedLot
+    pub fn new(alloc: Global) -> PartedBoxes
         ensures { result ≡ [] }
     {
-        PartedLot {
+        PartedBoxes {
             parts: Vec::new(alloc),
             covers: Vec::new(alloc),
             cover: Box3::default(),
@@ -198,12 +198,12 @@ impl PartedLot {
     }
 
     /// These boxes. It takes up to 40 bytes for each, and two hundred more.
-    pub fn over(alloc: Global, boxes: &[Box3]) -> Result<PartedLot, AllocError>
+    pub fn over(alloc: Global, boxes: &[Box3]) -> Result<PartedBoxes, AllocError>
         ensures { IfOk result (λ lot. lot ≡ boxes.now) }
     {
         let parts = parts_of(alloc, boxes)?;
         let covers = covers_of(alloc, parts.as_slice())?;
-        Ok(PartedLot {
+        Ok(PartedBoxes {
             parts,
             covers,
             cover: cover_of(boxes),
@@ -218,7 +218,7 @@ impl PartedLot {
     }
 
     /// Whether a box of the lot shares a point with one of the other.
-    pub fn meets(&self, other: &PartedLot) -> bool
+    pub fn meets(&self, other: &PartedBoxes) -> bool
         ensures test { result ≡ lots_meet self.now other.now }
         ensures share { IsTrue result ↔ DoLotsMeet self.now other.now }
     {
@@ -232,7 +232,7 @@ impl PartedLot {
 
     /// By how much two boxes, one of each lot, reach into each other at most, where that is more than a number that may be there;
     /// below 0 all are apart by so much at least. None where none reach further than that number, or a lot is empty.
-    pub fn most_over(&self, floor: Option<i64>, other: &PartedLot) -> Option<i64>
+    pub fn greatest_overlap(&self, floor: Option<i64>, other: &PartedBoxes) -> Option<i64>
         ensures { IsGreatestOver floor result (reaches self.now other.now) }
     {
         over(

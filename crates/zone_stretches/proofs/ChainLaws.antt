@@ -11,7 +11,7 @@ use Rattle.sync_types.specs.Boards.{Board}
 use Rattle.sync_types.specs.Events.{IsLowestName, is_same_event}
 use Rattle.sync_types.specs.Turns.{Move}
 use Rattle.sync_types.specs.declared.runs.EventId.{EventId}
-use Rattle.zone_stretches.specs.Ascents.{leading, PassFirst, is_over, is_in_order, is_forward, is_over_at_first, do_ascend, passes, IsTimed}
+use Rattle.zone_stretches.specs.Ascents.{leading, PassFirst, is_over, is_in_order, is_forward, is_over_at_first, is_chain, passes, IsTimed}
 use Rattle.zone_stretches.specs.Overlaps.{Order, is_open_at}
 use Rattle.zone_stretches.specs.SoundStretches.{HasLowNames}
 use Rattle.zone_stretches.specs.Stretches.{StretchView}
@@ -217,7 +217,7 @@ module _ (b : Board) (moves : List Move) (before : Order) (order : IsOrderOf b m
     pub forward : is_forward before y ≡ true
 
   -- each is over as any later one begins
-  all_later : (x : StretchView) (xs : List StretchView) → HasLowNames b moves x → All (HasLowNames b moves) xs → do_ascend before (x ∷ xs) ≡ true → All (IsLater x) xs
+  all_later : (x : StretchView) (xs : List StretchView) → HasLowNames b moves x → All (HasLowNames b moves) xs → is_chain before (x ∷ xs) ≡ true → All (IsLater x) xs
   all_later x [] low lows ascend = All-nil (IsLater x)
   all_later x (y ∷ ys) low lows ascend =
       let parts = and_parts (is_forward before x) _ ascend in
@@ -228,7 +228,7 @@ module _ (b : Board) (moves : List Move) (before : Order) (order : IsOrderOf b m
       (All-weaker (IsLater y) (IsLater x) (λ z later. record { low = later.low; over = over_trans x y z low low_y later.low rest.0 own.0 later.over; forward = later.forward }) ys
       (all_later y ys low_y (All-tail (HasLowNames b moves) y ys lows) rest.1))
 
-  ended_first : (own : StretchView) (xs : List StretchView) → HasLowNames b moves own → All (HasLowNames b moves) xs → do_ascend before xs ≡ true → PassFirst (passes before true own) xs
+  ended_first : (own : StretchView) (xs : List StretchView) → HasLowNames b moves own → All (HasLowNames b moves) xs → is_chain before xs ≡ true → PassFirst (passes before true own) xs
   ended_first own [] low lows ascend = tt
   ended_first own (x ∷ xs) low lows ascend =
       let low_x : HasLowNames b moves x = All-head (HasLowNames b moves) x xs lows in
@@ -243,7 +243,7 @@ module _ (b : Board) (moves : List Move) (before : Order) (order : IsOrderOf b m
       still_open x y low_x still later true is = never (is_over before x own) (over_trans x y own low_x later.low low later.over later.forward is) still
       still_open x y low_x still later false is = refl
 
-  begun_first : (own : StretchView) (xs : List StretchView) → HasLowNames b moves own → All (HasLowNames b moves) xs → do_ascend before xs ≡ true → PassFirst (passes before false own) xs
+  begun_first : (own : StretchView) (xs : List StretchView) → HasLowNames b moves own → All (HasLowNames b moves) xs → is_chain before xs ≡ true → PassFirst (passes before false own) xs
   begun_first own [] low lows ascend = tt
   begun_first own (x ∷ xs) low lows ascend =
       let low_x : HasLowNames b moves x = All-head (HasLowNames b moves) x xs lows in
@@ -255,7 +255,7 @@ module _ (b : Board) (moves : List Move) (before : Order) (order : IsOrderOf b m
         begun_first own xs low (All-tail (HasLowNames b moves) x xs lows) rest.1,
       )
 
-  pub pass_first : (own : StretchView) (xs : List StretchView) → HasLowNames b moves own → All (HasLowNames b moves) xs → do_ascend before xs ≡ true → (ended : Bool) → PassFirst (passes before ended own) xs
+  pub pass_first : (own : StretchView) (xs : List StretchView) → HasLowNames b moves own → All (HasLowNames b moves) xs → is_chain before xs ≡ true → (ended : Bool) → PassFirst (passes before ended own) xs
   pass_first own xs low lows ascend true = ended_first own xs low lows ascend
   pass_first own xs low lows ascend false = begun_first own xs low lows ascend
 
@@ -271,7 +271,7 @@ module _ (b : Board) (moves : List Move) (before : Order) (order : IsOrderOf b m
       by_over true is = never (is_over before x z) (over_trans x y z low_x later.low low_z later.over later.forward is) (sym (twice_not (is_over before x z)) ∙ ap (λ (o : Bool). not o) on)
       by_over false is = refl
 
-  later_at : (xs : List StretchView) (i j : ℕ) (d : StretchView) → All (HasLowNames b moves) xs → do_ascend before xs ≡ true → i < j → j < length xs
+  later_at : (xs : List StretchView) (i j : ℕ) (d : StretchView) → All (HasLowNames b moves) xs → is_chain before xs ≡ true → i < j → j < length xs
       → (is_forward before (get_or xs i d) ≡ true) × IsLater (get_or xs i d) (get_or xs j d)
   later_at [] i j d lows ascend less within = absurd (omega arith)
   later_at (x ∷ xs) i zero d lows ascend less within = absurd (omega arith)
@@ -286,7 +286,7 @@ module _ (b : Board) (moves : List Move) (before : Order) (order : IsOrderOf b m
       later_at xs i j d (All-tail (HasLowNames b moves) x xs lows) rest.1 (omega arith) (omega arith)
 
   -- no fewer pass at a later one
-  pub leading_grows : (own others : List StretchView) (i j : ℕ) (d : StretchView) → All (HasLowNames b moves) own → All (HasLowNames b moves) others → do_ascend before own ≡ true → i < j → j < length own
+  pub leading_grows : (own others : List StretchView) (i j : ℕ) (d : StretchView) → All (HasLowNames b moves) own → All (HasLowNames b moves) others → is_chain before own ≡ true → i < j → j < length own
       → (ended : Bool) → leading (passes before ended (get_or own i d)) others ≤ leading (passes before ended (get_or own j d)) others
   leading_grows own others i j d lows low_others ascend less within ended =
       let at = later_at own i j d lows ascend less within in
@@ -295,7 +295,7 @@ module _ (b : Board) (moves : List Move) (before : Order) (order : IsOrderOf b m
       (λ z low. passes_on (get_or own i d) (get_or own j d) z (All-get_or (HasLowNames b moves) own i d (omega arith) lows) at.0 at.1 low ended) others low_others)
 
 -- the stretches of the second zone, at one of the first
-pub passing_at : (before : Order) (own others : List StretchView) (place : ℕ) (d : StretchView) → IsTimed before (own ∷ (others ∷ [])) → do_ascend before others ≡ true → place < length own
+pub passing_at : (before : Order) (own others : List StretchView) (place : ℕ) (d : StretchView) → IsTimed before (own ∷ (others ∷ [])) → is_chain before others ≡ true → place < length own
     → (ended : Bool) → PassFirst (passes before ended (get_or own place d)) others
 passing_at before own others place d timed ascend within ended =
     let later : All (All (HasLowNames timed.board timed.moves)) (others ∷ []) = All-tail (All (HasLowNames timed.board timed.moves)) own (others ∷ []) timed.names in

@@ -9,7 +9,7 @@ use Rattle.sync_types.specs.Boards.{Board, first_board}
 use Rattle.sync_types.specs.Turns.{Move}
 use Rattle.sync_types.specs.Views.{RunView}
 use Rattle.zone_stretches.proofs.NameLaws.{ends_are_lowest_names}
-use Rattle.zone_stretches.specs.Ascents.{AreAscents, do_ascend}
+use Rattle.zone_stretches.specs.Ascents.{AreAscents, is_chain}
 use Rattle.zone_stretches.specs.Overlaps.{Order, ZoneTime, zone_times}
 use Rattle.zone_stretches.specs.SoundStretches.{HasLowNames, HaveLowNames}
 use Rattle.zone_stretches.specs.Stretches.{StretchView, StretchesView}
@@ -50,7 +50,7 @@ times_are (z ∷ zones) (l ∷ lists) marks from = ap (λ (times : List ZoneTime
 
 -- each is marked only where it ascends
 marked_from : (before : Order) (zones : List ZoneLine) (lists : List (List StretchView)) (marks : List Bool) (from : ℕ)
-    → ((place at : ℕ) → at ≡ from + place → get_or marks at false ≡ true → do_ascend before (get_or lists place []) ≡ true) → All (IsMarked before) (timed_from zones lists marks from)
+    → ((place at : ℕ) → at ≡ from + place → get_or marks at false ≡ true → is_chain before (get_or lists place []) ≡ true) → All (IsMarked before) (timed_from zones lists marks from)
 marked_from before [] lists marks from ascend = All-nil (IsMarked before)
 marked_from before (z ∷ zones) [] marks from ascend = All-nil (IsMarked before)
 marked_from before (z ∷ zones) (l ∷ lists) marks from ascend =

@@ -4,11 +4,11 @@ use Rattle.std.proofs.lemmas.Bool.{cases_lt, cases_eq}
 use Rattle.std.proofs.lemmas.List.Elements.{All-head, All-tail}
 use Rattle.std.proofs.lemmas.List.{get_or_default, get_or_past, get_or-replicate, get_or-set_same, get_or-set_other, length-replicate}
 use Rattle.zone_stretches.proofs.ChainLaws.{leading_grows, leading_within}
-use Rattle.zone_stretches.specs.Ascents.{leading, passes, do_ascend, place_in, AreAscents, IsTimed, IsWalk}
+use Rattle.zone_stretches.specs.Ascents.{leading, passes, is_chain, place_in, AreAscents, IsTimed, IsWalk}
 use Rattle.zone_stretches.specs.Overlaps.{Order}
 use Rattle.zone_stretches.specs.SoundStretches.{HasLowNames}
 use Rattle.zone_stretches.specs.Stretches.{StretchView}
-use Rattle.zone_stretches.specs.declared.ascents.Range.{Range}
+use Rattle.zone_stretches.specs.declared.ascents.IndexRange.{IndexRange}
 use Rattle.zone_stretches.specs.declared.ascents.RangeCursor.{RangeCursor}
 
 pub not_not : (b : Bool) → not b ≡ false → b ≡ true
@@ -25,7 +25,7 @@ module _ (before : Order) (own others : List StretchView) (timed : IsTimed befor
   abbrev found : StretchView → Bool → ℕ
   found x ended = leading (passes before ended x) others
 
-  grows : do_ascend before own ≡ true → (i j : ℕ) (d : StretchView) → i ≤ j → j < length own → (ended : Bool) → found (get_or own i d) ended ≤ found (get_or own j d) ended
+  grows : is_chain before own ≡ true → (i j : ℕ) (d : StretchView) → i ≤ j → j < length own → (ended : Bool) → found (get_or own i d) ended ≤ found (get_or own j d) ended
   grows ascend i j d upto within ended = by_less (cases_lt i j)
     where
       by_less : (i < j) ⊎ (j ≤ i) → found (get_or own i d) ended ≤ found (get_or own j d) ended
@@ -36,15 +36,15 @@ module _ (before : Order) (own others : List StretchView) (timed : IsTimed befor
           subst (λ (k : ℕ). found (get_or own i d) ended ≤ found (get_or own k d) ended) same (omega arith)
 
   -- the places of a stretch are these
-  abbrev AreOf : StretchView → Range → Type 0
+  abbrev AreOf : StretchView → IndexRange → Type 0
   AreOf x range = (ended : Bool) → place_in range ended ≡ found x ended
 
-  pub places_of : (x y : StretchView) (range : Range) → x ≡ y → range.from ≡ found x true → range.upto ≡ found x false → AreOf y range
+  pub places_of : (x y : StretchView) (range : IndexRange) → x ≡ y → range.from ≡ found x true → range.upto ≡ found x false → AreOf y range
   places_of x y range same from upto true = from ∙ ap (λ (z : StretchView). found z true) same
   places_of x y range same from upto false = upto ∙ ap (λ (z : StretchView). found z false) same
 
   -- those of the first stretch are the least, those of the last the most
-  pub walk_started : (walk : RangeCursor) (d e : StretchView) → do_ascend before own ≡ true → AreOf (get_or own 0 d) walk.range → AreOf (get_or own (length own - 1) e) walk.limit → IsWalk before own others 0 walk
+  pub walk_started : (walk : RangeCursor) (d e : StretchView) → is_chain before own ≡ true → AreOf (get_or own 0 d) walk.range → AreOf (get_or own (length own - 1) e) walk.limit → IsWalk before own others 0 walk
   walk_started walk d e ascend first last ascends = (
     ascend,
     λ k f later below. record {
@@ -79,8 +79,8 @@ module _ (before : Order) (own others : List StretchView) (timed : IsTimed befor
                   subst (λ (x : StretchView). found x ended ≤ found (get_or own k e) ended) (get_or_default own place e d within) (grows so_far.0 place k e (omega (arith, later)) below ended) in
                   omega (arith, is, more)
                   );
-              most = subst (λ (limit : Range). (ended : Bool) → found (get_or own k e) ended ≤ place_in limit ended) (sym same_limit) at.most;
-              within = subst (λ (limit : Range). (ended : Bool) → place_in limit ended ≤ length others) (sym same_limit) at.within;
+              most = subst (λ (limit : IndexRange). (ended : Bool) → found (get_or own k e) ended ≤ place_in limit ended) (sym same_limit) at.most;
+              within = subst (λ (limit : IndexRange). (ended : Bool) → place_in limit ended ≤ length others) (sym same_limit) at.within;
             }
             ),
       )
@@ -98,12 +98,12 @@ pub none_marked : (before : Order) (lists : List (List StretchView)) (ascents : 
 none_marked before lists ascents n none place on =
     absurd (let off : get_or ascents place false ≡ false = ap (λ (marks : List Bool). get_or marks place false) none ∙ none_marked_at n place in let both : false ≡ true = sym off ∙ on in cc)
 
-pub marked : (before : Order) (lists : List (List StretchView)) (ascents : List Bool) (place : ℕ) (mark : Bool) → place < length ascents → mark ≡ do_ascend before (get_or lists place [])
+pub marked : (before : Order) (lists : List (List StretchView)) (ascents : List Bool) (place : ℕ) (mark : Bool) → place < length ascents → mark ≡ is_chain before (get_or lists place [])
     → AreAscents before lists ascents → AreAscents before lists (set ascents place mark)
 marked before lists ascents place mark within is known k = by_place (cases_eq k place)
   where
-    by_place : (k ≡ place) ⊎ (k ≡ place → ⊥) → get_or (set ascents place mark) k false ≡ true → do_ascend before (get_or lists k []) ≡ true
+    by_place : (k ≡ place) ⊎ (k ≡ place → ⊥) → get_or (set ascents place mark) k false ≡ true → is_chain before (get_or lists k []) ≡ true
     by_place (inl same) on =
-        subst (λ (n : ℕ). do_ascend before (get_or lists n []) ≡ true) (sym same)
+        subst (λ (n : ℕ). is_chain before (get_or lists n []) ≡ true) (sym same)
         (sym is ∙ sym (get_or-set_same ascents place mark false within) ∙ ap (λ (n : ℕ). get_or (set ascents place mark) n false) (sym same) ∙ on)
     by_place (inr other) on = known k (sym (get_or-set_other ascents place k mark false other) ∙ on)

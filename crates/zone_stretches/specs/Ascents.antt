@@ -8,7 +8,7 @@ use Rattle.sync_types.specs.declared.runs.EventId.{EventId}
 use Rattle.zone_stretches.specs.Overlaps.{Order, is_open_at}
 use Rattle.zone_stretches.specs.SoundStretches.{HasLowNames}
 use Rattle.zone_stretches.specs.Stretches.{StretchView}
-use Rattle.zone_stretches.specs.declared.ascents.Range.{Range}
+use Rattle.zone_stretches.specs.declared.ascents.IndexRange.{IndexRange}
 use Rattle.zone_stretches.specs.declared.ascents.RangeCursor.{RangeCursor}
 
 -- ---- lists of which the first elements pass a test
@@ -44,9 +44,9 @@ is_over_at_first before early [] = true
 is_over_at_first before early (late ∷ stretches) = is_over before early late
 
 -- each is over as the next begins
-abbrev pub do_ascend : Order → List StretchView → Bool
-do_ascend before [] = true
-do_ascend before (stretch ∷ stretches) = is_forward before stretch && (is_over_at_first before stretch stretches && do_ascend before stretches)
+abbrev pub is_chain : Order → List StretchView → Bool
+is_chain before [] = true
+is_chain before (stretch ∷ stretches) = is_forward before stretch && (is_over_at_first before stretch stretches && is_chain before stretches)
 
 -- a stretch of another zone is over as this one begins, or begins before this one is over
 abbrev pub passes : Order → Bool → StretchView → StretchView → Bool
@@ -55,7 +55,7 @@ passes before false own other = not (is_over before own other)
 
 -- a list is marked only where it ascends
 abbrev pub AreAscents : Order → List (List StretchView) → List Bool → Type 0
-AreAscents before lists ascents = (place : ℕ) → slice_index_or ascents place false ≡ true → do_ascend before (slice_index_or lists place []) ≡ true
+AreAscents before lists ascents = (place : ℕ) → slice_index_or ascents place false ≡ true → is_chain before (slice_index_or lists place []) ≡ true
 
 -- of the stretches of another zone those that are not over as this one begins, up to the first that begins after it is over
 abbrev pub near : Order → StretchView → List StretchView → List StretchView
@@ -70,12 +70,12 @@ pub record IsTimed (before : Order) (lists : List (List StretchView)) : Type 0 w
 
 -- ---- a walk along the stretches of a zone
 
-abbrev pub place_in : Range → Bool → ℕ
+abbrev pub place_in : IndexRange → Bool → ℕ
 place_in range true = range.from
 place_in range false = range.upto
 
 -- no fewer and no more stretches of another zone pass
-pub record IsBetween (before : Order) (own : StretchView) (others : List StretchView) (low high : Range) : Type 0 where
+pub record IsBetween (before : Order) (own : StretchView) (others : List StretchView) (low high : IndexRange) : Type 0 where
   pub least : (ended : Bool) → place_in low ended ≤ leading (passes before ended own) others
   pub most : (ended : Bool) → leading (passes before ended own) others ≤ place_in high ended
   pub within : (ended : Bool) → place_in high ended ≤ length others
@@ -83,4 +83,4 @@ pub record IsBetween (before : Order) (own : StretchView) (others : List Stretch
 -- where they ascend, this is known of each from this place on
 abbrev pub IsWalk : Order → List StretchView → List StretchView → ℕ → RangeCursor → Type 0
 IsWalk before own others place walk =
-    walk.ascends ≡ true → (do_ascend before own ≡ true) × ((k : ℕ) (d : StretchView) → place ≤ k → k < length own → IsBetween before (slice_index_or own k d) others walk.range walk.limit)
+    walk.ascends ≡ true → (is_chain before own ≡ true) × ((k : ℕ) (d : StretchView) → place ≤ k → k < length own → IsBetween before (slice_index_or own k d) others walk.range walk.limit)

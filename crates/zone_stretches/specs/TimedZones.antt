@@ -1,7 +1,7 @@
 -- Steps. The zones of a job with their stretches, and each two of them, one pair after another.
 use Rattle.std.specs.Prelude.{◌≡◌, ℕ, suc, Bool, true, false, List, [], ◌∷◌, ◌++◌, drop, map, slice_get, slice_index_or, Option, None, Some}
 use Rattle.job_types.specs.declared.job.ZoneLine.{ZoneLine}
-use Rattle.zone_stretches.specs.Ascents.{IsTimed, do_ascend}
+use Rattle.zone_stretches.specs.Ascents.{IsTimed, is_chain}
 use Rattle.zone_stretches.specs.Overlaps.{Order, ZoneTime}
 use Rattle.zone_stretches.specs.Stretches.{StretchView}
 
@@ -19,7 +19,7 @@ timed_from (zone ∷ zones) (stretches ∷ lists) marks place =
 
 -- a zone is marked only where each of its stretches is over as the next begins
 abbrev pub IsMarked : Order → TimedZoneView → Type 0
-IsMarked before zone = zone.ascends ≡ true → do_ascend before zone.time.stretches ≡ true
+IsMarked before zone = zone.ascends ≡ true → is_chain before zone.time.stretches ≡ true
 
 -- the stretches of two zones begin and end with events whose order the test tells, and each zone is marked only where it ascends
 pub record AreTimed (before : Order) (pair : TimedZoneView × TimedZoneView) : Type 0 where

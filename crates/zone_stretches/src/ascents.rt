@@ -16,7 +16,7 @@ use sync_types::EventId;
 /// Two places among the stretches of a zone: of the first that may overlap a stretch of another zone, and of the first after
 /// these.
 #[derive(Clone, Copy)]
-pub struct Range {
+pub struct IndexRange {
     /// The place of the first.
     pub from: usize,
     /// The place after the last.
@@ -29,9 +29,9 @@ pub struct RangeCursor {
     /// Whether each stretch that is walked along is over as the next begins, so that the places only go on.
     pub ascends: bool,
     /// The places found last.
-    pub range: Range,
+    pub range: IndexRange,
     /// How far the places go, where they only go on.
-    pub limit: Range,
+    pub limit: IndexRange,
 }
 
 /// Whether a stretch is over as another begins.
@@ -73,8 +73,8 @@ fn is_over_at(clocks: &Clocks, early: &Stretch, stretches: &[Stretch], place: us
 }
 
 /// Whether each stretch is over as the next begins.
-pub fn do_ascend(clocks: &Clocks, stretches: &[Stretch]) -> bool
-    ensures { result ≡ model.do_ascend (is_before_in clocks.now.rows) stretches.now }
+pub fn is_chain(clocks: &Clocks, stretches: &[Stretch]) -> bool
+    ensures { result ≡ model.is_chain (is_before_in clocks.now.rows) stretches.now }
 {
     for place in 0..stretches.len() {
         let stretch = &stretches[place];
@@ -91,7 +91,7 @@ pub fn ascents_of(clocks: &Clocks, lists: &[Vec<Stretch>]) -> [bool; ZONE_LIMIT]
 {
     let mut ascents = [false; ZONE_LIMIT];
     for place in 0..lists.len().min(ZONE_LIMIT) {
-        ascents[place] = do_ascend(clocks, lists[place].as_slice());
+        ascents[place] = is_chain(clocks, lists[place].as_slice());
     }
     ascents
 }
@@ -157,12 +157,12 @@ fn count_by_halves(clocks: &Clocks, ended: bool, own: &Stretch, others: &[Stretc
 }
 
 /// The places of the stretches that may overlap this one, found by halves.
-fn range_by_halves(clocks: &Clocks, own: &Stretch, others: &[Stretch]) -> Range
+fn range_by_halves(clocks: &Clocks, own: &Stretch, others: &[Stretch]) -> IndexRange
     requires { (ended : Bool) → model.PassFirst (model.passes (is_before_in clocks.now.rows) ended own.now) others.now }
     ensures from { result.from ≡ model.leading (model.passes (is_before_in clocks.now.rows) true own.now) others.now }
     ensures upto { result.upto ≡ model.leading (model.passes (is_before_in clocks.now.rows) false own.now) others.now }
 {
-    Range {
+    IndexRange {
         from: count_by_halves(clocks, true, own, others),
         upto: count_by_halves(clocks, false, own, others),
     }
@@ -176,12 +176,12 @@ pub fn start_walk(
     ascends: bool,
 ) -> RangeCursor
     requires timed { IsTimed (is_before_in clocks.now.rows) (own.now ∷ (others.now ∷ [])) }
-    requires ascend { ascends ≡ true → model.do_ascend (is_before_in clocks.now.rows) own.now ≡ true }
-    requires others { model.do_ascend (is_before_in clocks.now.rows) others.now ≡ true }
+    requires ascend { ascends ≡ true → model.is_chain (is_before_in clocks.now.rows) own.now ≡ true }
+    requires others { model.is_chain (is_before_in clocks.now.rows) others.now ≡ true }
     ensures { model.IsWalk (is_before_in clocks.now.rows) own.now others.now 0 result }
 {
     if !ascends || own.is_empty() {
-        let none = Range { from: 0, upto: 0 };
+        let none = IndexRange { from: 0, upto: 0 };
         return RangeCursor {
             ascends: false,
             range: none,
@@ -196,7 +196,7 @@ pub fn start_walk(
 }
 
 /// The places of the stretches that may overlap this one, the next of a walk.
-pub fn range_of(clocks: &Clocks, own: &Stretch, others: &[Stretch], walk: RangeCursor) -> Range
+pub fn range_of(clocks: &Clocks, own: &Stretch, others: &[Stretch], walk: RangeCursor) -> IndexRange
     requires passing { (ended : Bool) → model.PassFirst
         (model.passes (is_before_in clocks.now.rows) ended own.now) others.now }
     requires known { walk.ascends ≡ true → model.IsBetween (is_before_in clocks.now.rows) own.now
@@ -221,7 +221,7 @@ pub fn range_of(clocks: &Clocks, own: &Stretch, others: &[Stretch], walk: RangeC
         ended: false,
         own,
     };
-    Range {
+    IndexRange {
         from: over.count_between(others, low.from, high.from),
         upto: begun.count_between(others, low.upto, high.upto),
     }
@@ -274,20 +274,20 @@ fn count_near(
 }
 
 /// The places of the stretches that may overlap this one, looked for first where they are guessed.
-fn range_near(clocks: &Clocks, own: &Stretch, others: &[Stretch], guess: Range) -> Range
+fn range_near(clocks: &Clocks, own: &Stretch, others: &[Stretch], guess: IndexRange) -> IndexRange
     requires { (ended : Bool) → model.PassFirst (model.passes (is_before_in clocks.now.rows) ended own.now) others.now }
     ensures from { result.from ≡ model.leading (model.passes (is_before_in clocks.now.rows) true own.now) others.now }
     ensures upto { result.upto ≡ model.leading (model.passes (is_before_in clocks.now.rows) false own.now) others.now }
     ensures within { result.upto ≤ length others.now }
 {
-    Range {
+    IndexRange {
         from: count_near(clocks, true, own, others, guess.from),
         upto: count_near(clocks, false, own, others, guess.upto),
     }
 }
 
 /// What stands in these places.
-pub fn part<T>(others: &[T], range: Range) -> &[T]
+pub fn part<T>(others: &[T], range: IndexRange) -> &[T]
     requires { range.upto ≤ length others.now }
     ensures { result.now ≡ drop range.from (take range.upto others.now) }
 {
@@ -305,7 +305,7 @@ pub fn near_part<'a>(
     own: &Stretch,
     others: &'a [Stretch],
     ascend: bool,
-    range: &mut Range,
+    range: &mut IndexRange,
 ) -> &'a [Stretch]
     requires { ascend ≡ true → (ended : Bool)
         → model.PassFirst (model.passes (is_before_in clocks.now.rows) ended own.now) others.now }

@@ -14,7 +14,8 @@ mod zone_boxes;
 mod zones;
 
 pub use ascents::{
-    Range, RangeCursor, ascends_at, ascents_of, do_ascend, near_part, part, range_of, start_walk,
+    IndexRange, RangeCursor, ascends_at, ascents_of, is_chain, near_part, part, range_of,
+    start_walk,
 };
 pub use laws::{
     boxes_are_few, boxes_have_covers, boxes_share_out_places, ends_are_lowest_names,

@@ -1,6 +1,6 @@
 use Rattle.std.proofs.Common.{rules, ◌∙◌, sym}
 use Rattle.explain_reach.proofs.LotLaws.{lots-from_test, test-from_lots}
-use Rattle.explain_reach.proofs.parted.PartedLot.meets.Goals as goal
+use Rattle.explain_reach.proofs.parted.PartedBoxes.meets.Goals as goal
 
 pub returns-clause-test : goal.returns-clause-test
 returns-clause-test c = search rules

@@ -5,7 +5,7 @@ use Rattle.explain_reach.proofs.PartLaws.{any_has, no_length}
 use Rattle.explain_reach.specs.Parts.{boxes_in}
 use Rattle.explain_reach.specs.declared.parts.Part.{Part}
 use Rattle.swept_boxes.specs.declared.Box3.{Box3}
-use Rattle.explain_reach.proofs.parted.PartedLot.is_empty.Goals as goal
+use Rattle.explain_reach.proofs.parted.PartedBoxes.is_empty.Goals as goal
 
 pub returns : goal.returns
 returns c =

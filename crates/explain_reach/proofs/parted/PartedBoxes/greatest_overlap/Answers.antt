@@ -6,7 +6,7 @@ use Rattle.explain_reach.specs.Lots.{IsGreatest, reaches}
 use Rattle.explain_reach.specs.Parts.{boxes_in}
 use Rattle.explain_reach.specs.declared.parts.Part.{Part}
 use Rattle.swept_boxes.specs.declared.Box3.{Box3}
-use Rattle.explain_reach.proofs.parted.PartedLot.most_over.Goals as goal
+use Rattle.explain_reach.proofs.parted.PartedBoxes.greatest_overlap.Goals as goal
 
 pub returns : goal.returns
 returns c =
