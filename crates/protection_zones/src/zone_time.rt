@@ -148,9 +148,10 @@ impl<'a> Scene<'a> {
             (boxes_of self.now.zone.now (has begins.now.on self.now.zone.now.zone) begins.now.line
             (positions_in begins.now.at) items.now)) }
     {
+        let job = self.job;
         let shape = ZoneShape {
             zone: self.zone,
-            margin: self.job.margin,
+            margin: job.margin,
         };
         if items.is_empty() {
             return shape.boxes_at_rest(alloc, begins);
