@@ -207,7 +207,8 @@ impl<'a> JobRun<'a> {
         requires few { K.faults sink.old < 2 ^ 64 - 1 }
         ensures text { Puts (stage (K.written sink.old) (K.count sink.old) page.old)
             (stage (K.written sink.new) (K.count sink.new) page.new) result
-            (model.entry_lines self.now.job.now self.now.run.now silent (numbered.0, numbered.1.now)) }
+            (model.entry_lines self.now.job.now self.now.run.now silent
+            (numbered.entry.0, numbered.entry.1.now)) }
         ensures cause { HasCause (K.faults sink.old) (K.faults sink.new) result }
     {
         let job = self.job;

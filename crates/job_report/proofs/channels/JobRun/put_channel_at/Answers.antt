@@ -2,7 +2,7 @@ use Rattle.std.proofs.Common.{◌≡◌, ◌∙◌, ◌≤◌, [], length, ap, s
 use Rattle.std.proofs.lemmas.Option.{slice_get_past}
 use Rattle.job_report.specs.Report.{lines_at}
 use Rattle.job_report.proofs.PageLemmas.{Prints-page}
-use Rattle.job_report.proofs.lines.JobRun.put_channel_at.Goals as goal
+use Rattle.job_report.proofs.channels.JobRun.put_channel_at.Goals as goal
 use Rattle.sync_types.specs.Views.{RunView}
 
 pub returns-in-None-clause-text : goal.returns-in-None-clause-text

@@ -6,7 +6,7 @@ use Rattle.job_report.specs.Channels.{channels_of}
 use Rattle.job_report.specs.Report.{all_lines, lines_at}
 use Rattle.job_report.proofs.PageLemmas.{Prints-next, Puts-next}
 use Rattle.job_report.proofs.RowLemmas.{Stands, Stands-numbered}
-use Rattle.job_report.proofs.lines.JobRun.put_channels.Goals as goal
+use Rattle.job_report.proofs.channels.JobRun.put_channels.Goals as goal
 
 -- a channel stands at its place among the numbered ones of the job
 here : (channels others : List ℕ) (place channel : ℕ) → channels ≡ others → place < length channels → channel ≡ get_or channels place channel

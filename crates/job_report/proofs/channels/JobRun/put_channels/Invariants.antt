@@ -3,7 +3,7 @@ use Rattle.std.specs.List.{enumerate_from, flat_map}
 use Rattle.job_report.specs.Channels.{channels_of}
 use Rattle.job_report.specs.Pages.{Prints, stage}
 use Rattle.job_report.specs.Report.{lines_at}
-use Rattle.job_report.proofs.lines.JobRun.put_channels.Given as goal
+use Rattle.job_report.proofs.channels.JobRun.put_channels.Given as goal
 
 abbrev pub invariant-loop-place : goal.invariant-loop-place
 invariant-loop-place g l = record {
