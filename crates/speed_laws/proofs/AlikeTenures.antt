@@ -46,41 +46,41 @@ abbrev pub EndsAt : List OccurrenceView → Option ℕ → Option Place → Tenu
 EndsAt all owner None t = (t.upto ≡ None) × (t.last ≡ None)
 EndsAt all owner (Some e) t = (o : OccurrenceView) × At all e o × (t.last ≡ Some o.name) × (t.upto ≡ Some (upto_of owner e))
 
-pub record IsRead (all : List OccurrenceView) (first : SpanStartView) (v : machine.TenureView) (t : TenureView) : Type 0 where
+pub record IsRead (all : List OccurrenceView) (first : SpanStartView) (v : machine.Tenure) (t : TenureView) : Type 0 where
   pub owner : t.owner ≡ v.owner
   pub from : t.from ≡ v.from
   pub begins : BeginsAt all first v.first t.begins
   pub ends : EndsAt all v.owner v.last t
 
-abbrev pub AllRead : List OccurrenceView → SpanStartView → List machine.TenureView → List TenureView → Type 0
+abbrev pub AllRead : List OccurrenceView → SpanStartView → List machine.Tenure → List TenureView → Type 0
 AllRead all first [] [] = Unit {0}
 AllRead all first (v ∷ vs) (t ∷ ts) = IsRead all first v t × AllRead all first vs ts
 AllRead all first vs ts = ⊥
 
 -- the newest first
-abbrev onto : List machine.TenureView → List machine.TenureView → List machine.TenureView
+abbrev onto : List machine.Tenure → List machine.Tenure → List machine.Tenure
 onto [] older = older
 onto (v ∷ vs) older = onto vs (v ∷ older)
 
-back : (vs older rest : List machine.TenureView) → onto (onto vs older) rest ≡ onto older (vs ++ rest)
+back : (vs older rest : List machine.Tenure) → onto (onto vs older) rest ≡ onto older (vs ++ rest)
 back [] older rest = refl
 back (v ∷ vs) older rest = back vs (v ∷ older) rest
 
-one_way : (vs us : List machine.TenureView) → onto vs [] ≡ onto us [] → vs ≡ us
-one_way vs us same = sym (append-nil vs) ∙ sym (back vs [] []) ∙ ap (λ (ts : List machine.TenureView). onto ts []) same ∙ back us [] [] ∙ append-nil us
+one_way : (vs us : List machine.Tenure) → onto vs [] ≡ onto us [] → vs ≡ us
+one_way vs us same = sym (append-nil vs) ∙ sym (back vs [] []) ∙ ap (λ (ts : List machine.Tenure). onto ts []) same ∙ back us [] [] ∙ append-nil us
 
 -- ---- all of them
 
-until : machine.TenureView → ℕ → Place → machine.TenureView
+until : machine.Tenure → ℕ → Place → machine.Tenure
 until v upto e = record { owner = v.owner; first = v.first; last = Some e; from = v.from; upto = upto }
 
 module _ (zone : ZoneLine) (x : ℕ) (carries : has_axis zone x ≡ true) (all : List OccurrenceView) (first : SpanStartView) where
-  pub record ReadSo (counts : ℕ → ℕ) (t : TenureView) (v : machine.TenureView) (os : List OccurrenceView) : Type 0 where
-    pub tenures : List machine.TenureView
-    pub are : (older : List machine.TenureView) → hands x counts (v ∷ older) os ≡ onto tenures older
+  pub record ReadSo (counts : ℕ → ℕ) (t : TenureView) (v : machine.Tenure) (os : List OccurrenceView) : Type 0 where
+    pub tenures : List machine.Tenure
+    pub are : (older : List machine.Tenure) → hands x counts (v ∷ older) os ≡ onto tenures older
     pub read : AllRead all first tenures (tenures_from zone counts t os)
 
-  ended : (counts : ℕ → ℕ) (o : OccurrenceView) (v : machine.TenureView) (t : TenureView) (upto : ℕ) → At all (next_place counts o) o → IsRead all first v t → (v.owner ≡ Some o.channel) ⊎ (v.owner ≡ None)
+  ended : (counts : ℕ → ℕ) (o : OccurrenceView) (v : machine.Tenure) (t : TenureView) (upto : ℕ) → At all (next_place counts o) o → IsRead all first v t → (v.owner ≡ Some o.channel) ⊎ (v.owner ≡ None)
       → IsRead all first (until v upto (next_place counts o)) (tenure_until counts t o)
   unfolding until
   ended counts o v t upto at m owner = record { owner = m.owner; from = m.from; begins = m.begins; ends = (o, at, refl, by_owner v.owner refl owner) }
@@ -92,7 +92,7 @@ module _ (zone : ZoneLine) (x : ℕ) (carries : has_axis zone x ≡ true) (all :
           let less : counts o.channel ≡ suc (counts o.channel) - 1 = omega arith in
           ap (λ (d : Option ℕ). Some (option_map_or counts d 0)) (m.owner ∙ is ∙ same) ∙ ap (λ (n : ℕ). Some n) less
 
-  pub all_read : (os : List OccurrenceView) (counts : ℕ → ℕ) (t : TenureView) (v : machine.TenureView) → IsRead all first v t → HandsAre zone t.owner os → All (TakesAll zone x carries) os → AreLeft zone x carries all counts os
+  pub all_read : (os : List OccurrenceView) (counts : ℕ → ℕ) (t : TenureView) (v : machine.Tenure) → IsRead all first v t → HandsAre zone t.owner os → All (TakesAll zone x carries) os → AreLeft zone x carries all counts os
       → ReadSo counts t v os
   unfolding until
   all_read [] counts t v m are takes left = record { tenures = v ∷ []; are = λ older. refl; read = (m, tt) }
@@ -104,27 +104,27 @@ module _ (zone : ZoneLine) (x : ℕ) (carries : has_axis zone x ≡ true) (all :
       at = left_here zone x carries all counts o os left
 
       by_change : Change zone x carries t.owner o
-          → ((t' : TenureView) (v' : machine.TenureView) → IsRead all first v' t' → HandsAre zone t'.owner os → ReadSo (counted counts o.channel) t' v' os) → ReadSo counts t v (o ∷ os)
+          → ((t' : TenureView) (v' : machine.Tenure) → IsRead all first v' t' → HandsAre zone t'.owner os → ReadSo (counted counts o.channel) t' v' os) → ReadSo counts t v (o ∷ os)
       by_change (Frees on changes off owner) rest =
-          let new : machine.TenureView = record { owner = None; first = Some (next_place counts o); last = None; from = suc (counts o.channel); upto = 0 } in
+          let new : machine.Tenure = record { owner = None; first = Some (next_place counts o); last = None; from = suc (counts o.channel); upto = 0 } in
           let old = until v (counts o.channel) (next_place counts o) in
           let mine : (tenure_after zone counts o).owner ≡ None = rw off refl in
           let next : HandsAre zone (tenure_after zone counts o).owner os = subst (λ (w : Option ℕ). HandsAre zone w os) (rw (changes, off) refl) are.3 in
           let r = rest (tenure_after zone counts o) new (record { owner = mine; from = refl; begins = (o, at, refl); ends = (refl, refl) }) next in
           record {
             tenures = old ∷ r.tenures;
-            are = λ older. ap (λ (ts : List machine.TenureView). hands x (counted counts o.channel) ts os) (hand_frees zone x carries counts o (v ∷ older) on) ∙ r.are (old ∷ older);
+            are = λ older. ap (λ (ts : List machine.Tenure). hands x (counted counts o.channel) ts os) (hand_frees zone x carries counts o (v ∷ older) on) ∙ r.are (old ∷ older);
             read = rw changes (ended counts o v t (counts o.channel) at m (inl (sym m.owner ∙ owner)), r.read);
           }
       by_change (Takes stays on changes takes_it owner known) rest =
-          let new : machine.TenureView = record { owner = Some o.channel; first = Some (next_place counts o); last = None; from = suc (counts o.channel); upto = 0 } in
+          let new : machine.Tenure = record { owner = Some o.channel; first = Some (next_place counts o); last = None; from = suc (counts o.channel); upto = 0 } in
           let old = until v 0 (next_place counts o) in
           let mine : (tenure_after zone counts o).owner ≡ Some o.channel = rw takes_it refl in
           let next : HandsAre zone (tenure_after zone counts o).owner os = subst (λ (w : Option ℕ). HandsAre zone w os) (rw (changes, takes_it) refl) are.3 in
           let r = rest (tenure_after zone counts o) new (record { owner = mine; from = refl; begins = (o, at, refl); ends = (refl, refl) }) next in
           record {
             tenures = old ∷ r.tenures;
-            are = λ older. ap (λ (ts : List machine.TenureView). hands x (counted counts o.channel) ts os) (hand_takes zone x carries counts o (v ∷ older) stays on) ∙ r.are (old ∷ older);
+            are = λ older. ap (λ (ts : List machine.Tenure). hands x (counted counts o.channel) ts os) (hand_takes zone x carries counts o (v ∷ older) stays on) ∙ r.are (old ∷ older);
             read = rw changes (ended counts o v t 0 at m (inr (sym m.owner ∙ owner)), r.read);
           }
       by_change (Neither stays none same) rest =
@@ -132,7 +132,7 @@ module _ (zone : ZoneLine) (x : ℕ) (carries : has_axis zone x ≡ true) (all :
           let r = rest t v m next in
           record {
             tenures = r.tenures;
-            are = λ older. ap (λ (ts : List machine.TenureView). hands x (counted counts o.channel) ts os) (hand_neither zone x carries counts o (v ∷ older) stays none) ∙ r.are older;
+            are = λ older. ap (λ (ts : List machine.Tenure). hands x (counted counts o.channel) ts os) (hand_neither zone x carries counts o (v ∷ older) stays none) ∙ r.are older;
             read = rw same r.read;
           }
 
@@ -177,7 +177,7 @@ module _ (b : Board) (ms ns : List Move) (run other : RunView) where
           subst (λ (d : Option EventId). AreAlikeEnds b ms ns t.last d) (sym two.2) (subst (λ (d : Option EventId). AreAlikeEnds b ms ns d (Some two.0.name)) (sym one.2) event.names),
         )
 
-    read_alike : (first : SpanStartView) → AreAlikeBeginnings b ms ns run other first first → (vs : List machine.TenureView) (ts us : List TenureView)
+    read_alike : (first : SpanStartView) → AreAlikeBeginnings b ms ns run other first first → (vs : List machine.Tenure) (ts us : List TenureView)
         → AllRead (occurrences_of b ms) first vs ts → AllRead (occurrences_of b ns) first vs us → AllAlikeTenures ts us
     read_alike first itself [] [] [] one two = tt
     read_alike first itself [] [] (u ∷ us) one two = absurd two
@@ -232,7 +232,7 @@ module _ (b : Board) (ms ns : List Move) (run other : RunView) where
           let tenures : left.tenures ≡ right.tenures =
           one_way left.tenures right.tenures (sym (left.are []) ∙ tenures_read b ms x zs one ∙ same x ∙ sym (tenures_read b ns x zs two) ∙ right.are []) in
           read_alike (first_tenure job zone).begins first_alike right.tenures _ _
-          (subst (λ (vs : List machine.TenureView). AllRead (occurrences_from b 0 ms) (first_tenure job zone).begins vs (tenures_from zone (λ c. 0) (first_tenure job zone) (occurrences_from b 0 ms))) tenures left.read) right.read
+          (subst (λ (vs : List machine.Tenure). AllRead (occurrences_from b 0 ms) (first_tenure job zone).begins vs (tenures_from zone (λ c. 0) (first_tenure job zone) (occurrences_from b 0 ms))) tenures left.read) right.read
 
       pub zone_alike : ((x : ℕ) → tenures_at b ms (length ms) x ≡ tenures_at b ns (length ns) x) → AllAlikeTenures (tenures_of job (occurrences_of b ms) zone) (tenures_of job (occurrences_of b ns) zone)
       unfolding occurrences_of tenures_of

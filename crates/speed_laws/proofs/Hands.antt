@@ -3,7 +3,7 @@ use Rattle.std.proofs.Common.{◌≡◌, ◌∙◌, ℕ, zero, suc, ◌+◌, ◌
 use Rattle.std.proofs.lemmas.Bool.{and_parts, cases_Bool, eqb-true, eq-eqb, ne_eqb}
 use Rattle.std.specs.Option.{option_map_or}
 use Rattle.board_laws.proofs.Parts.{first_is}
-use Rattle.board_laws.proofs.Takings.{Taken}
+use Rattle.board_laws.proofs.Takings.{Taken, taken_was_free}
 use Rattle.board_laws.specs.Machine.{Place, Tenure, tenures_handed_on}
 use Rattle.board_laws.specs.Zones.{Zones}
 use Rattle.order_clocks.proofs.CounterLaws.{closed_other, opened_other}
@@ -286,7 +286,7 @@ module _ (b : Board) (moves : List Move) (zs : Zones b) (run : AreOfRunning b mo
           let w = step_at b moves i inside run in
           let within = subst (λ (k : Happening). IsIn g k.goings) w.happens (found_in h.goings c g e).0 in
           let t = taker_in (board_at b moves i) w.move.channel w.move.step (zones_at b moves i zs run (omega (arith, inside))) w.runs x g within on in
-          of_nobody (λ d. (rows_in b moves i).past d d) ((part_at b moves i).axis x) (ap (λ (a : Board). is_free (a.axis x)) w.part ∙ (and_parts _ _ (sym (t.took x) ∙ on)).1)
+          of_nobody (λ d. (rows_in b moves i).past d d) ((part_at b moves i).axis x) (ap (λ (a : Board). is_free (a.axis x)) w.part ∙ taken_was_free _ _ g x t on)
 
   step_hands : (x : ℕ) → hands x (counts_at b moves i) (tenures_at b moves i x) (in_step 0 b moves i) ≡ tenures_at b moves (suc i) x
   step_hands x =

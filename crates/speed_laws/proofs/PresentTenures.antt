@@ -162,7 +162,7 @@ pub record BeginsWithLast (all made : List OccurrenceView) (zone : ZoneLine) (fi
   pub last : IsPlaceOf made place (last_hand zone None made)
 
 -- what a tenure of the zone has where one of the axis lasts or ends later
-present_by : (all : List OccurrenceView) (first : TenureView) (counts : ℕ → ℕ) (holder : Option ℕ) (u v : machine.TenureView) (t : TenureView) → u.owner ≡ holder → IfSome u.owner (λ c. u.from ≤ counts c)
+present_by : (all : List OccurrenceView) (first : TenureView) (counts : ℕ → ℕ) (holder : Option ℕ) (u v : machine.Tenure) (t : TenureView) → u.owner ≡ holder → IfSome u.owner (λ c. u.from ≤ counts c)
     → IfSome u.first (λ e. (1 ≤ e.place) × (e.place ≤ counts e.channel)) → v.owner ≡ u.owner → v.from ≡ u.from → v.first ≡ u.first → IfSome v.last (λ e. counts e.channel < e.place)
     → Match all first.begins v t → IsPresent all first counts holder t
 present_by all first counts holder u v t owned from made owner' from' first' later m = record {
@@ -253,7 +253,7 @@ module _ (job : JobView) (script : Script) (qs rs : List ℕ) (quiet : IsQuietRu
       let whole = moves_by script (start_of job) (rs ++ spoken.alike.rest) in
       let joined : whole ≡ made ++ rest = moves_joined script (first_stage (start_of job)) rs spoken.alike.rest in
       let whole_runs : AreOfRunning board whole = (run_is_replay script (first_stage (start_of job)) (rs ++ spoken.alike.rest) spoken.alike.maximal.run).running in
-      let first : machine.TenureView = record { owner = owner_of (board.axis x); first = None; last = None; from = 0; upto = 0 } in
+      let first : machine.Tenure = record { owner = owner_of (board.axis x); first = None; last = None; from = 0; upto = 0 } in
       let owned : owner_of (board.axis x) ≡ board.holder zone.zone = zones.owner zone.zone x (for x ∙ carries) in
       let begin : IsNewest zone x carries (λ d. 0) (board.holder zone.zone) (first ∷ []) =
       record { tenure = first; older = []; are = refl; owned = owned; lasting = refl; from = from_zero (owner_of (board.axis x)); first = tt } in
@@ -264,13 +264,13 @@ module _ (job : JobView) (script : Script) (qs rs : List ℕ) (quiet : IsQuietRu
       let total : (d : ℕ) → counts_after (λ c. 0) (occurrences_from board 0 made) d ≡ counts d = λ d. counts_read board made d zones made_runs ∙ sym (events_told board made d (length made) (omega arith)).count in
       let last = lasts zone x carries later (counts_after (λ c. 0) (occurrences_from board 0 made)) counts now.tenure now.older now.lasting (λ d. let same = total d in omega (arith, same)) in
       let in_whole : hands x (counts_after (λ c. 0) (occurrences_from board 0 made)) (now.tenure ∷ now.older) later ≡ tenures_at board whole (length whole) x =
-      ap (λ (ts : List machine.TenureView). hands x (counts_after (λ c. 0) (occurrences_from board 0 made)) ts later) (sym now.are)
+      ap (λ (ts : List machine.Tenure). hands x (counts_after (λ c. 0) (occurrences_from board 0 made)) ts later) (sym now.are)
       ∙ sym (hands_append x (λ c. 0) (first ∷ []) (occurrences_from board 0 made) later)
       ∙ ap (hands x (λ c. 0) (first ∷ [])) (sym (events_joined made rest board 0) ∙ ap (occurrences_from board 0) (sym joined))
       ∙ tenures_read board whole x zones whole_runs in
       let same_end : tenures_at board whole (length whole) x ≡ tenures_at board speaking (length speaking) x = ap (λ (t : Machine). (t.axis x).tenures) (sym spoken.state) in
       let in_speaking : IsIn last.tenure (hands x (λ c. 0) (first ∷ []) (occurrences_from board 0 speaking)) =
-      subst (λ (ts : List machine.TenureView). IsIn last.tenure ts) (in_whole ∙ same_end ∙ sym (tenures_read board speaking x zones speaking_runs)) last.within in
+      subst (λ (ts : List machine.Tenure). IsIn last.tenure ts) (in_whole ∙ same_end ∙ sym (tenures_read board speaking x zones speaking_runs)) last.within in
       let read = each_read zone x carries (occurrences_from board 0 speaking) (first_tenure job zone).begins (occurrences_from board 0 speaking) (λ c. 0) (first_tenure job zone) first [] refl
       (record { owner = sym there.holder ∙ sym owned; from = refl; begins = refl; ends = (refl, refl) })
       (subst (λ (w : Option ℕ). HandsAre zone w (occurrences_from board 0 speaking)) there.holder (run_hands speaking board zone 0 zones for))
@@ -307,7 +307,7 @@ module _ (job : JobView) (script : Script) (qs rs : List ℕ) (quiet : IsQuietRu
       first_recounted None total up = tt
       first_recounted (Some e) total up = let same = total e.channel in (up.0, omega (arith, up.1, same))
 
-      by_read : (v : machine.TenureView) → (IsIn v []) ⊎ SomeOf (Match (occurrences_from board 0 speaking) (first_tenure job zone).begins v) (tenures_from zone (λ c. 0) (first_tenure job zone) (occurrences_from board 0 speaking))
+      by_read : (v : machine.Tenure) → (IsIn v []) ⊎ SomeOf (Match (occurrences_from board 0 speaking) (first_tenure job zone).begins v) (tenures_from zone (λ c. 0) (first_tenure job zone) (occurrences_from board 0 speaking))
           → ((t : TenureView) → Match (occurrences_from board 0 speaking) (first_tenure job zone).begins v t → Found t) → SomeOf Found (tenures_from zone (λ c. 0) (first_tenure job zone) (occurrences_from board 0 speaking))
       by_read v (inl none) make = absurd none
       by_read v (inr some) make = SomeOf-weaker (Match (occurrences_from board 0 speaking) (first_tenure job zone).begins v) Found make (tenures_from zone (λ c. 0) (first_tenure job zone) (occurrences_from board 0 speaking)) some

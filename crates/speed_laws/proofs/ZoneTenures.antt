@@ -52,7 +52,7 @@ IsPlaceOf all (Some e) None = ⊥
 abbrev pub KnownOwner : Option ℕ → Type 0
 KnownOwner owner = (c : ℕ) → owner ≡ Some c → among channel_numbers c ≡ true
 
-pub record Match (all : List OccurrenceView) (first : SpanStartView) (u : machine.TenureView) (t : TenureView) : Type 0 where
+pub record Match (all : List OccurrenceView) (first : SpanStartView) (u : machine.Tenure) (t : TenureView) : Type 0 where
   pub owner : t.owner ≡ u.owner
   pub from : t.from ≡ u.from
   pub begins : BeginsBy all first u.first t.begins
@@ -90,13 +90,13 @@ module _ (zone : ZoneLine) (x : ℕ) (carries : has_axis zone x ≡ true) where
       not_taken : carry zone o.takes ≡ false → o.takes x ≡ false
       not_taken off = elim (cases_Bool (o.takes x)) [ inl on ↦ no_truth (carry zone o.takes) (carry_to zone o.takes x carries on) off | inr out ↦ out ]
 
-  pub hand_frees : (counts : ℕ → ℕ) (o : OccurrenceView) (ts : List machine.TenureView) → o.frees x ≡ true → hand x counts o ts ≡ tenures_handed_on None (counts o.channel) (next_place counts o) ts
+  pub hand_frees : (counts : ℕ → ℕ) (o : OccurrenceView) (ts : List machine.Tenure) → o.frees x ≡ true → hand x counts o ts ≡ tenures_handed_on None (counts o.channel) (next_place counts o) ts
   hand_frees counts o ts on = rw on refl
 
-  pub hand_takes : (counts : ℕ → ℕ) (o : OccurrenceView) (ts : List machine.TenureView) → o.frees x ≡ false → o.takes x ≡ true → hand x counts o ts ≡ tenures_handed_on (Some o.channel) 0 (next_place counts o) ts
+  pub hand_takes : (counts : ℕ → ℕ) (o : OccurrenceView) (ts : List machine.Tenure) → o.frees x ≡ false → o.takes x ≡ true → hand x counts o ts ≡ tenures_handed_on (Some o.channel) 0 (next_place counts o) ts
   hand_takes counts o ts off on = rw (off, on) refl
 
-  pub hand_neither : (counts : ℕ → ℕ) (o : OccurrenceView) (ts : List machine.TenureView) → o.frees x ≡ false → o.takes x ≡ false → hand x counts o ts ≡ ts
+  pub hand_neither : (counts : ℕ → ℕ) (o : OccurrenceView) (ts : List machine.Tenure) → o.frees x ≡ false → o.takes x ≡ false → hand x counts o ts ≡ ts
   hand_neither counts o ts off out = rw (off, out) refl
 
   -- ---- each tenure of the axis is one of the zone
@@ -127,11 +127,11 @@ module _ (zone : ZoneLine) (x : ℕ) (carries : has_axis zone x ≡ true) where
         ∙ ap (λ (t : Bool). slice_get (cond t (o ∷ filter (λ p. p.channel == c) os) (filter (λ p. p.channel == c) os)) k) (ne_eqb o.channel c (λ e. apart (sym e)))
   ]
 
-  until : machine.TenureView → ℕ → Place → machine.TenureView
+  until : machine.Tenure → ℕ → Place → machine.Tenure
   until u upto e = record { owner = u.owner; first = u.first; last = Some e; from = u.from; upto = upto }
 
   -- what ends with an event
-  ended : (all : List OccurrenceView) (first : SpanStartView) (counts : ℕ → ℕ) (o : OccurrenceView) (u : machine.TenureView) (t : TenureView) (upto : ℕ) → At all (next_place counts o) o → Match all first u t
+  ended : (all : List OccurrenceView) (first : SpanStartView) (counts : ℕ → ℕ) (o : OccurrenceView) (u : machine.Tenure) (t : TenureView) (upto : ℕ) → At all (next_place counts o) o → Match all first u t
       → (u.owner ≡ Some o.channel) ⊎ ((u.owner ≡ None) × (among channel_numbers o.channel ≡ true)) → Match all first (until u upto (next_place counts o)) (tenure_until counts t o)
   unfolding until
   ended all first counts o u t upto at m owner = record {
@@ -150,9 +150,9 @@ module _ (zone : ZoneLine) (x : ℕ) (carries : has_axis zone x ≡ true) where
           let less : counts o.channel ≡ suc (counts o.channel) - 1 = omega arith in
           (ap (λ (w : Option ℕ). Some (option_map_or counts w 0)) (m.owner ∙ is ∙ same) ∙ ap (λ (n : ℕ). Some n) less, sym at_owner)
 
-  pub each_read : (all : List OccurrenceView) (first : SpanStartView) (os : List OccurrenceView) (counts : ℕ → ℕ) (t : TenureView) (u : machine.TenureView) (older : List machine.TenureView)
+  pub each_read : (all : List OccurrenceView) (first : SpanStartView) (os : List OccurrenceView) (counts : ℕ → ℕ) (t : TenureView) (u : machine.Tenure) (older : List machine.Tenure)
       → u.last ≡ None → Match all first u t → HandsAre zone t.owner os → All TakesAll os → AreLeft all counts os
-      → (v : machine.TenureView) → IsIn v (hands x counts (u ∷ older) os) → (IsIn v older) ⊎ SomeOf (Match all first v) (tenures_from zone counts t os)
+      → (v : machine.Tenure) → IsIn v (hands x counts (u ∷ older) os) → (IsIn v older) ⊎ SomeOf (Match all first v) (tenures_from zone counts t os)
   unfolding until
   each_read all first [] counts t u older lasting m are takes left v (inl same) = inr (inl (subst (λ w. Match all first w t) (sym same) m))
   each_read all first [] counts t u older lasting m are takes left v (inr there) = inl there
@@ -167,7 +167,7 @@ module _ (zone : ZoneLine) (x : ℕ) (carries : has_axis zone x ≡ true) where
           ≡ record { owner = to; first = Some (next_place counts o); last = None; from = suc (counts o.channel); upto = 0 } ∷ until u upto (next_place counts o) ∷ older
       until_is to upto = refl
 
-      sort : (old : machine.TenureView) → (u.owner ≡ Some o.channel) ⊎ ((u.owner ≡ None) × (among channel_numbers o.channel ≡ true)) → (upto : ℕ) → old ≡ until u upto (next_place counts o)
+      sort : (old : machine.Tenure) → (u.owner ≡ Some o.channel) ⊎ ((u.owner ≡ None) × (among channel_numbers o.channel ≡ true)) → (upto : ℕ) → old ≡ until u upto (next_place counts o)
           → (IsIn v (old ∷ older)) ⊎ SomeOf (Match all first v) (tenures_from zone (counted counts o.channel) (tenure_after zone counts o) os)
           → (IsIn v older) ⊎ SomeOf (Match all first v) (tenure_until counts t o ∷ tenures_from zone (counted counts o.channel) (tenure_after zone counts o) os)
       sort old owner upto is (inl (inl same)) = inr (inl (subst (λ w. Match all first w (tenure_until counts t o)) (sym (same ∙ is)) (ended all first counts o u t upto at m owner)))
@@ -175,52 +175,52 @@ module _ (zone : ZoneLine) (x : ℕ) (carries : has_axis zone x ≡ true) where
       sort old owner upto is (inr some) = inr (inr some)
 
       by_change : Change t.owner o
-          → ((t' : TenureView) (u' : machine.TenureView) (older' : List machine.TenureView) → u'.last ≡ None → Match all first u' t' → HandsAre zone t'.owner os → IsIn v (hands x (counted counts o.channel) (u' ∷ older') os)
+          → ((t' : TenureView) (u' : machine.Tenure) (older' : List machine.Tenure) → u'.last ≡ None → Match all first u' t' → HandsAre zone t'.owner os → IsIn v (hands x (counted counts o.channel) (u' ∷ older') os)
           → (IsIn v older') ⊎ SomeOf (Match all first v) (tenures_from zone (counted counts o.channel) t' os))
           → (IsIn v older) ⊎ SomeOf (Match all first v) (tenures_from zone counts t (o ∷ os))
       by_change (Frees on changes off owner) rest =
-          let new : machine.TenureView = record { owner = None; first = Some (next_place counts o); last = None; from = suc (counts o.channel); upto = 0 } in
+          let new : machine.Tenure = record { owner = None; first = Some (next_place counts o); last = None; from = suc (counts o.channel); upto = 0 } in
           let old = until u (counts o.channel) (next_place counts o) in
           let mine : (tenure_after zone counts o).owner ≡ None = rw off refl in
           let next : HandsAre zone (tenure_after zone counts o).owner os = subst (λ (w : Option ℕ). HandsAre zone w os) (rw (changes, off) refl) are.3 in
           let r = rest (tenure_after zone counts o) new (old ∷ older) refl (record { owner = mine; from = refl; begins = (o, at, refl, refl, refl); ends = (refl, refl) }) next
-          (subst (λ (ts : List machine.TenureView). IsIn v (hands x (counted counts o.channel) ts os)) (hand_frees counts o (u ∷ older) on ∙ until_is None (counts o.channel)) within) in
+          (subst (λ (ts : List machine.Tenure). IsIn v (hands x (counted counts o.channel) ts os)) (hand_frees counts o (u ∷ older) on ∙ until_is None (counts o.channel)) within) in
           rw changes (sort old (inl (sym m.owner ∙ owner)) (counts o.channel) refl r)
       by_change (Takes stays on changes takes_it owner known) rest =
-          let new : machine.TenureView = record { owner = Some o.channel; first = Some (next_place counts o); last = None; from = suc (counts o.channel); upto = 0 } in
+          let new : machine.Tenure = record { owner = Some o.channel; first = Some (next_place counts o); last = None; from = suc (counts o.channel); upto = 0 } in
           let old = until u 0 (next_place counts o) in
           let mine : (tenure_after zone counts o).owner ≡ Some o.channel = rw takes_it refl in
           let next : HandsAre zone (tenure_after zone counts o).owner os = subst (λ (w : Option ℕ). HandsAre zone w os) (rw (changes, takes_it) refl) are.3 in
           let r = rest (tenure_after zone counts o) new (old ∷ older) refl (record { owner = mine; from = refl; begins = (o, at, refl, refl, refl); ends = (refl, refl) }) next
-          (subst (λ (ts : List machine.TenureView). IsIn v (hands x (counted counts o.channel) ts os)) (hand_takes counts o (u ∷ older) stays on ∙ until_is (Some o.channel) 0) within) in
+          (subst (λ (ts : List machine.Tenure). IsIn v (hands x (counted counts o.channel) ts os)) (hand_takes counts o (u ∷ older) stays on ∙ until_is (Some o.channel) 0) within) in
           rw changes (sort old (inr (sym m.owner ∙ owner, known)) 0 refl r)
       by_change (Neither stays none same) rest =
           let next : HandsAre zone t.owner os = subst (λ (w : Option ℕ). HandsAre zone w os) (rw same refl) are.3 in
-          rw same (rest t u older lasting m next (subst (λ (ts : List machine.TenureView). IsIn v (hands x (counted counts o.channel) ts os)) (hand_neither counts o (u ∷ older) stays none) within))
+          rw same (rest t u older lasting m next (subst (λ (ts : List machine.Tenure). IsIn v (hands x (counted counts o.channel) ts os)) (hand_neither counts o (u ∷ older) stays none) within))
 
   -- ---- the newest tenure
 
   -- what is older stays
-  stays_older : (os : List OccurrenceView) (counts : ℕ → ℕ) (u : machine.TenureView) (older : List machine.TenureView) (v : machine.TenureView) → IsIn v older → IsIn v (hands x counts (u ∷ older) os)
+  stays_older : (os : List OccurrenceView) (counts : ℕ → ℕ) (u : machine.Tenure) (older : List machine.Tenure) (v : machine.Tenure) → IsIn v older → IsIn v (hands x counts (u ∷ older) os)
   stays_older [] counts u older v within = inr within
   stays_older (o ∷ os) counts u older v within = by_test (o.frees x) (o.takes x) (λ u' older' there. stays_older os (counted counts o.channel) u' older' v there)
     where
-      by_test : (f t : Bool) → ((u' : machine.TenureView) (older' : List machine.TenureView) → IsIn v older' → IsIn v (hands x (counted counts o.channel) (u' ∷ older') os))
+      by_test : (f t : Bool) → ((u' : machine.Tenure) (older' : List machine.Tenure) → IsIn v older' → IsIn v (hands x (counted counts o.channel) (u' ∷ older') os))
           → IsIn v (hands x (counted counts o.channel) (cond f (tenures_handed_on None (counts o.channel) (next_place counts o) (u ∷ older)) (cond t (tenures_handed_on (Some o.channel) 0 (next_place counts o) (u ∷ older)) (u ∷ older))) os)
       by_test true t rest = rest _ _ (inr within)
       by_test false true rest = rest _ _ (inr within)
       by_test false false rest = rest u older within
 
   -- a tenure that lasts is in all later lists: it lasts still, or has ended with a later event
-  pub record LastsIn (base : ℕ → ℕ) (u : machine.TenureView) (ts : List machine.TenureView) : Type 0 where
-    pub tenure : machine.TenureView
+  pub record LastsIn (base : ℕ → ℕ) (u : machine.Tenure) (ts : List machine.Tenure) : Type 0 where
+    pub tenure : machine.Tenure
     pub within : IsIn tenure ts
     pub owner : tenure.owner ≡ u.owner
     pub from : tenure.from ≡ u.from
     pub first : tenure.first ≡ u.first
     pub later : IfSome tenure.last (λ e. base e.channel < e.place)
 
-  pub lasts : (os : List OccurrenceView) (counts base : ℕ → ℕ) (u : machine.TenureView) (older : List machine.TenureView) → u.last ≡ None → ((d : ℕ) → base d ≤ counts d)
+  pub lasts : (os : List OccurrenceView) (counts base : ℕ → ℕ) (u : machine.Tenure) (older : List machine.Tenure) → u.last ≡ None → ((d : ℕ) → base d ≤ counts d)
       → LastsIn base u (hands x counts (u ∷ older) os)
   lasts [] counts base u older lasting up =
       record { tenure = u; within = inl refl; owner = refl; from = refl; first = refl; later = subst (λ (l : Option Place). IfSome l (λ e. base e.channel < e.place)) (sym lasting) tt }
@@ -231,7 +231,7 @@ module _ (zone : ZoneLine) (x : ℕ) (carries : has_axis zone x ≡ true) where
       more d one true = omega (arith, one)
       more d one false = one
 
-      over : (new : machine.TenureView) (upto : ℕ) → LastsIn base u (hands x (counted counts o.channel) (new ∷ record { owner = u.owner; first = u.first; last = Some (next_place counts o); from = u.from; upto = upto } ∷ older) os)
+      over : (new : machine.Tenure) (upto : ℕ) → LastsIn base u (hands x (counted counts o.channel) (new ∷ record { owner = u.owner; first = u.first; last = Some (next_place counts o); from = u.from; upto = upto } ∷ older) os)
       over new upto =
           let one = up o.channel in
           record {
@@ -250,9 +250,9 @@ module _ (zone : ZoneLine) (x : ℕ) (carries : has_axis zone x ≡ true) where
       by_test false false rest = rest
 
   -- the newest tenure lasts, is the zone's holder's, and began with one of the events
-  pub record IsNewest (counts : ℕ → ℕ) (owner : Option ℕ) (ts : List machine.TenureView) : Type 0 where
-    pub tenure : machine.TenureView
-    pub older : List machine.TenureView
+  pub record IsNewest (counts : ℕ → ℕ) (owner : Option ℕ) (ts : List machine.Tenure) : Type 0 where
+    pub tenure : machine.Tenure
+    pub older : List machine.Tenure
     pub are : ts ≡ tenure ∷ older
     pub owned : tenure.owner ≡ owner
     pub lasting : tenure.last ≡ None
@@ -269,7 +269,7 @@ module _ (zone : ZoneLine) (x : ℕ) (carries : has_axis zone x ≡ true) where
   own_count : (counts : ℕ → ℕ) (c : ℕ) → counted counts c c ≡ suc (counts c)
   own_count counts c = rw (eq-eqb c c refl) refl
 
-  newest_next : (counts : ℕ → ℕ) (owner : Option ℕ) (ts : List machine.TenureView) (o : OccurrenceView) → IsNewest counts owner ts → Change owner o
+  newest_next : (counts : ℕ → ℕ) (owner : Option ℕ) (ts : List machine.Tenure) (o : OccurrenceView) → IsNewest counts owner ts → Change owner o
       → IsNewest (counted counts o.channel) (owner_next zone owner o) (hand x counts o ts)
   newest_next counts owner ts o n (Frees on changes off was) =
       let mine = own_count counts o.channel in
@@ -311,7 +311,7 @@ module _ (zone : ZoneLine) (x : ℕ) (carries : has_axis zone x ≡ true) where
       by_first None up = tt
       by_first (Some e) up = let more = grown counts o.channel e.channel in (up.0, omega (arith, up.1, more))
 
-  pub newest : (os : List OccurrenceView) (counts : ℕ → ℕ) (owner : Option ℕ) (ts : List machine.TenureView) → IsNewest counts owner ts → HandsAre zone owner os → All TakesAll os
+  pub newest : (os : List OccurrenceView) (counts : ℕ → ℕ) (owner : Option ℕ) (ts : List machine.Tenure) → IsNewest counts owner ts → HandsAre zone owner os → All TakesAll os
       → IsNewest (counts_after counts os) (owners_next zone owner os) (hands x counts ts os)
   newest [] counts owner ts n are takes = n
   newest (o ∷ os) counts owner ts n are takes =
@@ -319,11 +319,11 @@ module _ (zone : ZoneLine) (x : ℕ) (carries : has_axis zone x ≡ true) where
       (newest_next counts owner ts o n (change_of owner o os are (All-head TakesAll o os takes))) are.3 (All-tail TakesAll o os takes)
 
   -- it began with the event in which the zone changed hands last
-  pub newest_began : (all os : List OccurrenceView) (counts : ℕ → ℕ) (owner : Option ℕ) (u : machine.TenureView) (older : List machine.TenureView) (last : Option OccurrenceView)
+  pub newest_began : (all os : List OccurrenceView) (counts : ℕ → ℕ) (owner : Option ℕ) (u : machine.Tenure) (older : List machine.Tenure) (last : Option OccurrenceView)
       → IsPlaceOf all u.first last → KnownOwner owner → HandsAre zone owner os → All TakesAll os → AreLeft all counts os
-      → (v : machine.TenureView) (rest : List machine.TenureView) → hands x counts (u ∷ older) os ≡ v ∷ rest → IsPlaceOf all v.first (last_hand zone last os)
+      → (v : machine.Tenure) (rest : List machine.Tenure) → hands x counts (u ∷ older) os ≡ v ∷ rest → IsPlaceOf all v.first (last_hand zone last os)
   newest_began all [] counts owner u older last began known are takes left v rest is =
-      let same : u ≡ v = cc in subst (λ (w : machine.TenureView). IsPlaceOf all w.first last) same began
+      let same : u ≡ v = cc in subst (λ (w : machine.Tenure). IsPlaceOf all w.first last) same began
   newest_began all (o ∷ os) counts owner u older last began known are takes left v rest is =
       by_change (change_of owner o os are (All-head TakesAll o os takes))
       (λ owner' u' older' last' began' known' are' is'.
@@ -336,25 +336,25 @@ module _ (zone : ZoneLine) (x : ℕ) (carries : has_axis zone x ≡ true) where
       none_known c e = absurd cc
 
       by_change : Change owner o
-          → ((owner' : Option ℕ) (u' : machine.TenureView) (older' : List machine.TenureView) (last' : Option OccurrenceView) → IsPlaceOf all u'.first last' → KnownOwner owner' → HandsAre zone owner' os
+          → ((owner' : Option ℕ) (u' : machine.Tenure) (older' : List machine.Tenure) (last' : Option OccurrenceView) → IsPlaceOf all u'.first last' → KnownOwner owner' → HandsAre zone owner' os
           → hands x (counted counts o.channel) (u' ∷ older') os ≡ v ∷ rest → IsPlaceOf all v.first (last_hand zone last' os))
           → IsPlaceOf all v.first (last_hand zone (cond (changes_hands zone o) (Some o) last) os)
       by_change (Frees on changes off was) next =
           let free : owner_next zone owner o ≡ None = rw (changes, off) refl in
-          let new : machine.TenureView = record { owner = None; first = Some (next_place counts o); last = None; from = suc (counts o.channel); upto = 0 } in
-          let old : machine.TenureView = record { owner = u.owner; first = u.first; last = Some (next_place counts o); from = u.from; upto = counts o.channel } in
+          let new : machine.Tenure = record { owner = None; first = Some (next_place counts o); last = None; from = suc (counts o.channel); upto = 0 } in
+          let old : machine.Tenure = record { owner = u.owner; first = u.first; last = Some (next_place counts o); from = u.from; upto = counts o.channel } in
           rw changes (next None new (old ∷ older) (Some o) (at, known o.channel was) none_known (subst (λ (w : Option ℕ). HandsAre zone w os) free are.3)
-          (ap (λ (ts : List machine.TenureView). hands x (counted counts o.channel) ts os) (sym (hand_frees counts o (u ∷ older) on)) ∙ is))
+          (ap (λ (ts : List machine.Tenure). hands x (counted counts o.channel) ts os) (sym (hand_frees counts o (u ∷ older) on)) ∙ is))
       by_change (Takes stays on changes takes_it was there) next =
           let held : owner_next zone owner o ≡ Some o.channel = rw (changes, takes_it) refl in
-          let new : machine.TenureView = record { owner = Some o.channel; first = Some (next_place counts o); last = None; from = suc (counts o.channel); upto = 0 } in
-          let old : machine.TenureView = record { owner = u.owner; first = u.first; last = Some (next_place counts o); from = u.from; upto = 0 } in
+          let new : machine.Tenure = record { owner = Some o.channel; first = Some (next_place counts o); last = None; from = suc (counts o.channel); upto = 0 } in
+          let old : machine.Tenure = record { owner = u.owner; first = u.first; last = Some (next_place counts o); from = u.from; upto = 0 } in
           rw changes (next (Some o.channel) new (old ∷ older) (Some o) (at, there) one_known (subst (λ (w : Option ℕ). HandsAre zone w os) held are.3)
-          (ap (λ (ts : List machine.TenureView). hands x (counted counts o.channel) ts os) (sym (hand_takes counts o (u ∷ older) stays on)) ∙ is))
+          (ap (λ (ts : List machine.Tenure). hands x (counted counts o.channel) ts os) (sym (hand_takes counts o (u ∷ older) stays on)) ∙ is))
         where
           one_known : KnownOwner (Some o.channel)
           one_known c e = let same : o.channel ≡ c = cc in subst (λ (d : ℕ). among channel_numbers d ≡ true) same there
       by_change (Neither stays none same) next =
           let kept : owner_next zone owner o ≡ owner = rw same refl in
           rw same (next owner u older last began known (subst (λ (w : Option ℕ). HandsAre zone w os) kept are.3)
-          (ap (λ (ts : List machine.TenureView). hands x (counted counts o.channel) ts os) (sym (hand_neither counts o (u ∷ older) stays none)) ∙ is))
+          (ap (λ (ts : List machine.Tenure). hands x (counted counts o.channel) ts os) (sym (hand_neither counts o (u ∷ older) stays none)) ∙ is))
