@@ -1,11 +1,11 @@
 -- What one more line says, what one more axis is, and what an axis is that a channel may take.
-use Rattle.std.proofs.Common.{◌≡◌, ℕ, ℤ, ◌+◌, ◌<◌, ◌==◌, ◌&&◌, inl, inr, Bool, true, false, cond, List, [], ◌∷◌, ◌++◌, length, get_or, take, slice_set, Option, Some, None, if◌then◌else◌, refl, sym, ◌∙◌, ap, subst, arith, get_or-set_same, get_or-set_other}
+use Rattle.std.proofs.Common.{◌≡◌, ℕ, ℤ, ◌+◌, ◌<◌, ◌==◌, ◌&&◌, ◌||◌, inl, inr, Bool, true, false, cond, List, [], ◌∷◌, ◌++◌, length, get_or, take, slice_set, Option, Some, None, if◌then◌else◌, refl, sym, ◌∙◌, ap, subst, arith, get_or-set_same, get_or-set_other}
 use Rattle.std.specs.Prelude.{find, is_some}
 use Rattle.std.specs.Option.{option_map, option_or}
 use Rattle.std.proofs.lemmas.Bool.{ne_eqb, eq-eqb, eqb-true, cases_eq}
 use Rattle.std.proofs.lemmas.List.Folds.{find-append}
 use Rattle.std.proofs.lemmas.List.{take_more, get_or_default}
-use Rattle.axis_exchange.specs.Owners.{axis_state, first_state, is_free, is_free_among, may_take, may_take_all, state_with}
+use Rattle.axis_exchange.specs.Owners.{axis_state, first_state, is_free, is_free_among, is_known, may_take, may_take_all, may_take_from, position_if_free, position_when_taken, state_with}
 use Rattle.axis_exchange.specs.declared.AxisState.{AxisState}
 use Rattle.axis_exchange.specs.declared.AxisState.TheVariants.{Owned, Free}
 use Rattle.set_laws.proofs.MemberLaws.{list_all-at_member}
@@ -96,6 +96,35 @@ own_where_not_free : (state : Option AxisState) (channel : ℕ) → may_take sta
 own_where_not_free (Some (Owned owner)) channel may free = ap (λ c. Some (Owned c)) (eqb-true owner channel may)
 own_where_not_free (Some (Free position)) channel may free = cc
 own_where_not_free None channel may free = cc
+
+-- what is free or its own is known
+pub known_where_free : (state : Option AxisState) (channel : ℕ) (place : Option ℤ) → may_take state channel ≡ true → is_known state channel place ≡ true
+known_where_free (Some (Owned owner)) channel place may = ap (λ (b : Bool). b || is_some place) may
+known_where_free (Some (Free position)) channel place may = refl
+known_where_free None channel place may = cc
+
+-- where no places are told, the channel learns where the free ones stand
+pub taken_from_nobody : (state : Option AxisState) (channel : ℕ) → position_when_taken state channel None ≡ position_if_free state
+taken_from_nobody (Some (Owned owner)) channel = either_way (owner == channel)
+  where
+    nothing : Option ℤ
+    nothing = None
+
+    either_way : (b : Bool) → (if b then nothing else nothing) ≡ nothing
+    either_way true = refl
+    either_way false = refl
+taken_from_nobody (Some (Free position)) channel = refl
+taken_from_nobody None channel = refl
+
+-- where no channel stands it may take what is free or its own
+pub from_nobody : (state : Option AxisState) (channel : ℕ) (standing : List Bool) → ((d : ℕ) → has standing d ≡ false) → may_take_from state channel standing ≡ may_take state channel
+from_nobody (Some (Owned owner)) channel standing none = ap (λ (b : Bool). (owner == channel) || b) (none owner) ∙ or_false (owner == channel)
+  where
+    or_false : (b : Bool) → (b || false) ≡ b
+    or_false true = refl
+    or_false false = refl
+from_nobody (Some (Free position)) channel standing none = refl
+from_nobody None channel standing none = refl
 
 -- where all named axes are the channel's afterwards, those have changed that were free
 pub states_taken : (old : List (Option AxisState)) (channel : ℕ) (axes : List Bool) → may_take_all old channel axes ≡ true

@@ -1,5 +1,5 @@
 -- Meaning. Who has each axis, which axes a channel may take, and where those stand that it takes.
-use Rattle.std.specs.Prelude.{ℕ, ℤ, ◌==◌, ◌&&◌, ◌||◌, Bool, true, false, List, find, slice_index_or, Option, Some, None}
+use Rattle.std.specs.Prelude.{ℕ, ℤ, ◌==◌, ◌&&◌, ◌||◌, Bool, true, false, List, find, slice_index_or, Option, Some, None, is_some, if◌then◌else◌}
 use Rattle.std.specs.List.{list_all}
 use Rattle.std.specs.Option.{option_map}
 use Rattle.axis_sets.specs.Sets.{has, members_of}
@@ -39,6 +39,28 @@ may_take state channel = is_free state || is_owned_by state channel
 -- it may take each of these axes
 abbrev pub may_take_all : List (Option AxisState) → ℕ → List Bool → Bool
 may_take_all owners channel axes = list_all (λ x. may_take (axis_state owners x) channel) (members_of axes)
+
+-- from channels that stand it may take too what one of them owns
+abbrev pub may_take_from : Option AxisState → ℕ → List Bool → Bool
+may_take_from (Some (Owned owner)) channel standing = (owner == channel) || has standing owner
+may_take_from (Some (Free position)) channel standing = true
+may_take_from None channel standing = false
+
+-- each of these axes
+abbrev pub may_take_all_from : List (Option AxisState) → ℕ → List Bool → List Bool → Bool
+may_take_all_from owners channel axes standing = list_all (λ x. may_take_from (axis_state owners x) channel standing) (members_of axes)
+
+-- an axis is free, the channel's own, or it is told where it stands
+abbrev pub is_known : Option AxisState → ℕ → Option ℤ → Bool
+is_known (Some (Owned owner)) channel place = (owner == channel) || is_some place
+is_known (Some (Free position)) channel place = true
+is_known None channel place = is_some place
+
+-- where an axis stands that a channel takes: where it is free, else where it is told; of its own it takes none
+abbrev pub position_when_taken : Option AxisState → ℕ → Option ℤ → Option ℤ
+position_when_taken (Some (Owned owner)) channel place = if owner == channel then None else place
+position_when_taken (Some (Free position)) channel place = Some position
+position_when_taken None channel place = place
 
 -- of these axes one that is free
 abbrev pub is_free_among : List (Option AxisState) → List Bool → ℕ → Bool

@@ -1,12 +1,12 @@
 //! The owners of axes.
-ghost use Rattle.std.specs.Prelude.{◌≡◌, ℕ, ◌&&◌, true, None, Some, IsSome, if◌then◌else◌, length};
+ghost use Rattle.std.specs.Prelude.{◌≡◌, ℕ, true, None, Some, IsSome, if◌then◌else◌, length};
 ghost use Rattle.axis_sets.specs.Positions.{position_of};
 ghost use Rattle.axis_sets.specs.Sets.{has};
-ghost use Rattle.axis_exchange.specs.Owners.{axis_state, first_state, free_at, is_free, is_free_among, is_owned_by, may_take, may_take_all, position_if_free, state_with};
+ghost use Rattle.axis_exchange.specs.Owners.{axis_state, first_state, free_at, is_free_among, is_known, is_owned_by, may_take_all, may_take_all_from, may_take_from, position_if_free, position_when_taken, state_with};
 ghost use Rattle.axis_exchange.specs.declared.AxisState.TheVariants.{Owned};
 
 use crate::AxisState;
-use axis_sets::{AXIS_LIMIT, AxisId, AxisSet, ChannelId, Positions};
+use axis_sets::{AXIS_LIMIT, AxisId, AxisSet, ChannelId, ChannelSet, Positions};
 use micro_units::Um;
 use std::marker::Model;
 
@@ -98,9 +98,17 @@ impl Owners {
     pub fn want(&self, channel: ChannelId, axes: AxisSet) -> bool
         ensures { result ≡ may_take_all self.now channel axes }
     {
+        self.want_from(channel, axes, ChannelSet::empty())
+    }
+
+    /// Whether the channel may take these axes where it may take them from the channels of `standing` too: each
+    /// is free, its own, or of one of them. An axis that the job has not is none of these.
+    pub fn want_from(&self, channel: ChannelId, axes: AxisSet, standing: ChannelSet) -> bool
+        ensures { result ≡ may_take_all_from self.now channel axes standing }
+    {
         for index in 0..AXIS_LIMIT {
             let axis = AxisId { index: index as u8 };
-            if axes.contains(axis) && !may_take(self.state(axis), channel) {
+            if axes.contains(axis) && !may_take_from(self.state(axis), channel, standing) {
                 return false;
             }
         }
@@ -118,7 +126,22 @@ impl Owners {
             ≡ (if has axes x then position_if_free (axis_state self.old x) else None) }
         ensures size { length result ≡ AXIS_LIMIT }
     {
-        let positions = self.free_positions(axes);
+        self.take_from(channel, axes, &Positions::empty())
+    }
+
+    /// The channel takes these axes, so that it owns all of them, also those of other channels, of which `at`
+    /// says where they stand. The answer says where those stand that were not its own.
+    pub fn take_from(&mut self, channel: ChannelId, axes: AxisSet, at: &Positions) -> Positions
+        requires known { (x : ℕ) → has axes x ≡ true
+            → is_known (axis_state self.old x) channel (position_of at.now x) ≡ true }
+        ensures states { (x : ℕ) → axis_state self.new x
+            ≡ (if has axes x then Some (Owned channel) else axis_state self.old x) }
+        ensures positions { (x : ℕ) → position_of result x
+            ≡ (if has axes x then position_when_taken (axis_state self.old x) channel (position_of at.now x)
+            else None) }
+        ensures size { length result ≡ AXIS_LIMIT }
+    {
+        let positions = self.positions_when_taken(channel, axes, at);
         for index in 0..AXIS_LIMIT {
             let axis = AxisId { index: index as u8 };
             if axes.contains(axis) {
@@ -128,17 +151,18 @@ impl Owners {
         positions
     }
 
-    // Where those of these axes stand that are free.
-    fn free_positions(&self, axes: AxisSet) -> Positions
+    // Where those of these axes stand that the channel takes.
+    fn positions_when_taken(&self, channel: ChannelId, axes: AxisSet, told: &Positions) -> Positions
         ensures positions { (x : ℕ) → position_of result x
-            ≡ (if has axes x then position_if_free (axis_state self.now x) else None) }
+            ≡ (if has axes x then position_when_taken (axis_state self.now x) channel (position_of told.now x)
+            else None) }
         ensures size { length result ≡ AXIS_LIMIT }
     {
         let mut positions = Positions::empty();
         for index in 0..AXIS_LIMIT {
             let axis = AxisId { index: index as u8 };
             if axes.contains(axis) {
-                if let Some(at) = position_if_free(self.state(axis)) {
+                if let Some(at) = position_when_taken(self.state(axis), channel, told.get(axis)) {
                     positions.set(axis, at);
                 }
             }
@@ -168,31 +192,24 @@ fn is_owned_by(state: &Option<AxisState>, channel: ChannelId) -> bool
     }
 }
 
-// Whether an axis in this state is free.
-fn is_free(state: &Option<AxisState>) -> bool
-    ensures { result ≡ is_free state.now }
+// Whether a channel may take an axis in this state, where it may take it from these channels too.
+fn may_take_from(state: Option<AxisState>, channel: ChannelId, standing: ChannelSet) -> bool
+    ensures { result ≡ may_take_from state channel standing }
 {
-    match state {
-        Some(AxisState::Owned(_)) => false,
+    match &state {
+        Some(AxisState::Owned(owner)) => *owner == channel || standing.contains(*owner),
         Some(AxisState::Free(_)) => true,
         None => false,
     }
 }
 
-// Whether a channel may take an axis in this state.
-fn may_take(state: Option<AxisState>, channel: ChannelId) -> bool
-    ensures { result ≡ may_take state channel }
-{
-    is_free(&state) || is_owned_by(&state, channel)
-}
-
-// Where an axis in this state stands, if it is free.
-fn position_if_free(state: Option<AxisState>) -> Option<Um>
-    ensures { result ≡ position_if_free state }
+// Where an axis in this state stands that a channel takes, by where it is told to stand.
+fn position_when_taken(state: Option<AxisState>, channel: ChannelId, told: Option<Um>) -> Option<Um>
+    ensures { result ≡ position_when_taken state channel told }
 {
     match &state {
-        Some(AxisState::Owned(_)) => None,
+        Some(AxisState::Owned(owner)) => { if *owner == channel { None } else { told } }
         Some(AxisState::Free(at)) => Some(*at),
-        None => None,
+        None => told,
     }
 }

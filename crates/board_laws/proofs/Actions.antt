@@ -8,15 +8,14 @@ use Rattle.sync_types.specs.GoingOn.{first_of}
 use Rattle.sync_types.specs.Starts.{axes_of_zone, first_holder}
 use Rattle.sync_types.specs.Views.{StartView}
 use Rattle.sync_types.specs.declared.Step.{Step}
-use Rattle.board_laws.specs.Machine.{Seat, In, Called, Own, State, Effect, is_idle, mine, holds_by_carrier, holds_zone, board_of, touches, effect, doing_of, carrier, own_after_act, axes_freed, selects_program, program_selected}
+use Rattle.board_laws.specs.Machine.{Seat, In, Called, Own, State, Effect, is_idle, mine, holds_by_carrier, holds_zone, board_of, touches, effect, doing_of, carrier, own_after_act, axes_freed, selects_program, program_selected, places_told}
 use Rattle.board_laws.specs.Clean.{MarkChange, Stays, Raises, Lowers, IsAct}
 use Rattle.board_laws.proofs.Basics.{in_no_call}
 use Rattle.board_laws.proofs.Footprint.{ReadsSame, alarm_same, part_marks, part_state, part_awake, part_found, part_calls, part_selects}
 use Rattle.sync_types.specs.Boards as boards
 use Rattle.sync_types.specs.Boards.{owner_of, ownership_of, owns}
-use Rattle.sync_types.specs.BoardActions.{after_own_part, channels_started, position_or_zero}
+use Rattle.sync_types.specs.BoardActions.{after_own_part, channels_started}
 use Rattle.sync_types.specs.BoardAlarms.{alarm_of}
-use Rattle.axis_sets.specs.Positions.{position_of}
 use Rattle.sync_types.specs.declared.Action.{Action}
 
 pub owner_is : (o : Option ℕ) (p : ℤ) → owner_of (ownership_of o p) ≡ o
@@ -68,24 +67,24 @@ effect_agree b t p step s =
     let make : Own → Option ℕ → Effect = λ o alarm. record {
       own = o;
       frees = among (axes_freed alarm step.action);
-      place = λ a. position_or_zero (position_of step.at a);
+      place = places_told step;
       calls = among (channels_started alarm step.action);
       selects = selects_program alarm step.action;
       program = program_selected step.action;
       on = has step.on;
     } in
-    let own : own_after_act p (b.own p) ((after_own_part (board_of b) p step).marks p) ((after_own_part (board_of b) p step).state p) (touches step.action)
-    ≡ own_after_act p (t.own p) ((after_own_part (board_of t) p step).marks p) ((after_own_part (board_of t) p step).state p) (touches step.action) =
-    ap (λ (o : Own). own_after_act p o ((after_own_part (board_of b) p step).marks p) ((after_own_part (board_of b) p step).state p) (touches step.action)) s.own
-    ∙ ap (λ (m : ℕ → Bool). own_after_act p (t.own p) m ((after_own_part (board_of b) p step).state p) (touches step.action)) (part_marks (board_of b) (board_of t) p step r)
-    ∙ ap (λ (d : Doing). own_after_act p (t.own p) ((after_own_part (board_of t) p step).marks p) d (touches step.action)) (part_state (board_of b) (board_of t) p step r) in
+    let own : own_after_act p (b.own p) ((after_own_part (board_of b) p step).marks p) ((after_own_part (board_of b) p step).state p) (touches step.action) (places_told step)
+    ≡ own_after_act p (t.own p) ((after_own_part (board_of t) p step).marks p) ((after_own_part (board_of t) p step).state p) (touches step.action) (places_told step) =
+    ap (λ (o : Own). own_after_act p o ((after_own_part (board_of b) p step).marks p) ((after_own_part (board_of b) p step).state p) (touches step.action) (places_told step)) s.own
+    ∙ ap (λ (m : ℕ → Bool). own_after_act p (t.own p) m ((after_own_part (board_of b) p step).state p) (touches step.action) (places_told step)) (part_marks (board_of b) (board_of t) p step r)
+    ∙ ap (λ (d : Doing). own_after_act p (t.own p) ((after_own_part (board_of t) p step).marks p) d (touches step.action) (places_told step)) (part_state (board_of b) (board_of t) p step r) in
     ap (λ (o : Own). make o (alarm_of (board_of b) p step.action)) own
-    ∙ ap (λ (alarm : Option ℕ). make (own_after_act p (t.own p) ((after_own_part (board_of t) p step).marks p) ((after_own_part (board_of t) p step).state p) (touches step.action)) alarm)
+    ∙ ap (λ (alarm : Option ℕ). make (own_after_act p (t.own p) ((after_own_part (board_of t) p step).marks p) ((after_own_part (board_of t) p step).state p) (touches step.action) (places_told step)) alarm)
     (alarm_same (board_of b) (board_of t) p step.action r)
 
-changes : (p k : ℕ) (o : Own) (marks : ℕ → Bool) (state : Doing) (names : ℕ → Bool) → MarkChange o (own_after_act p o marks state names) k
+changes : (p k : ℕ) (o : Own) (marks : ℕ → Bool) (state : Doing) (names : ℕ → Bool) (place : ℕ → ℤ) → MarkChange o (own_after_act p o marks state names place) k
 unfolding own_after_act
-changes p k o marks state names = elim (cases_Bool (o.marks k)) [
+changes p k o marks state names place = elim (cases_Bool (o.marks k)) [
   | inl old ↦ elim (cases_Bool (marks k)) [
     | inl new ↦ Stays (new ∙ sym old) (rw (new, old) refl) (rw (new, old) refl)
     | inr new ↦ Lowers old new (rw new refl) (rw (new, old) refl)
@@ -106,7 +105,7 @@ act_is b p step = record {
   needs = λ d k. refl;
   took = λ a. refl;
   program = refl;
-  mark = λ k. changes p k (b.own p) ((after_own_part (board_of b) p step).marks p) ((after_own_part (board_of b) p step).state p) (touches step.action);
+  mark = λ k. changes p k (b.own p) ((after_own_part (board_of b) p step).marks p) ((after_own_part (board_of b) p step).state p) (touches step.action) (places_told step);
   found_down = λ k y. (part_found (board_of b) p step k y).down;
   leaves_up = λ k y. (part_found (board_of b) p step k y).up;
   awake = part_awake (board_of b) p step;

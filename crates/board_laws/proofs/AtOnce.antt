@@ -3,10 +3,12 @@ use Rattle.axis_sets.specs.declared.limits.TheConstants.{CHANNEL_LIMIT}
 use Rattle.std.proofs.Common.{◌≡◌, ℕ, ℤ, ◌==◌, ◌&&◌, ◌||◌, not, Bool, true, false, List, [], ◌∷◌, filter, Option, None, Some, inl, inr, refl, sym, ap, ap₂, ◌∙◌}
 use Rattle.std.proofs.lemmas.Bool.{cases_Bool, eqb-true, eq-eqb, and_parts, or_cases, or_left, or_right, true≢false}
 use Rattle.std.specs.List.{list_all}
+use Rattle.sync_types.proofs.FreeTakings.{NobodyRobs, goes_rob_nobody, takings_rob_nobody}
+use Rattle.sync_types.proofs.TakenAxes.{free_or_own}
 use Rattle.sync_types.specs.Boards.{IsIdle, IsRunning, IsHolding, HasEnded, AtMarks, AtEnds, AtAxes, State as Doing, Ownership, OwnedBy, FreeAt, Board, among, channel_numbers, is_this, owner_of, ownership_of, owns, no_positions, grant_with}
 use Rattle.sync_types.specs.Boards as boards
 use Rattle.sync_types.specs.Events.{channels_in}
-use Rattle.sync_types.specs.GoingOn.{Going, first_of, axes_asked, waits_for_axes, can_take, next_taker, goers_at_once, state_after_goes, after_goes, Takings, all_takings}
+use Rattle.sync_types.specs.GoingOn.{Going, first_of, axes_asked, waits_for_axes, can_have, can_take, next_taker, goers_at_once, state_after_goes, after_goes, Takings, all_takings}
 use Rattle.board_laws.specs.Machine.{Axis, Seat, In, Called, State, is_listed, asks, is_free, mine, is_met, ready, doing_of, board_of}
 use Rattle.board_laws.specs.Clean.{GoesClean}
 use Rattle.board_laws.specs.Zones.{Zones}
@@ -27,8 +29,13 @@ taken_in t = all_takings (before_takings t)
 abbrev pub went : State → ℕ → Bool
 went t c = among (channels_in (taken_in t).goings) c
 
-pub takings_of : (t : State) → Zones (board_of t) → AllTaken (before_takings t) (taken_in t)
-takings_of t zs = all_taken CHANNEL_LIMIT (before_takings t) (zones_goes (board_of t) zs)
+-- zones go with their axes, and nobody takes axes from channels that stand
+pub record Orderly (t : State) : Type 0 where
+  pub zones : Zones (board_of t)
+  pub none : NobodyRobs (board_of t)
+
+pub takings_of : (t : State) → Orderly t → AllTaken (before_takings t) (taken_in t)
+takings_of t zs = all_taken CHANNEL_LIMIT (before_takings t) (zones_goes (board_of t) zs.zones) (goes_rob_nobody (board_of t) zs.none)
 
 pub goes_state : (t : State) (c : ℕ) → among (goers_at_once (board_of t)) c ≡ true → (before_takings t).state c ≡ IsRunning (grant_with (board_of t) c no_positions)
 unfolding state_after_goes
@@ -63,13 +70,13 @@ can_shown : (t : State) (c x : ℕ) → (boards.is_free ((before_takings t).axis
 can_shown t c x = ap₂ (λ (a b : Bool). a || b) (free_shown (t.axis x).owner (t.axis x).position) (owns_mine t c x)
 
 -- who takes is ready
-pub taken_ready : (t : State) (g : Going) → Zones (board_of t) → IsOf g (taken_in t).goings → (ready t g.channel ≡ true) × (is_getting (t.own g.channel).seat ≡ true)
+pub taken_ready : (t : State) (g : Going) → Orderly t → IsOf g (taken_in t).goings → (ready t g.channel ≡ true) × (is_getting (t.own g.channel).seat ≡ true)
 taken_ready t g zs in_it =
     let w = (takings_of t zs).each g in_it in
     let get = waiting_gets t g.channel w.waits in
     (getting_ready t g.channel get w.listed (λ x on. sym (can_shown t g.channel x) ∙ w.could x (asked_gets t g.channel x get ∙ on)), get)
 
-pub went_ready : (t : State) (c : ℕ) → Zones (board_of t) → went t c ≡ true → (ready t c ≡ true) × (is_getting (t.own c).seat ≡ true)
+pub went_ready : (t : State) (c : ℕ) → Orderly t → went t c ≡ true → (ready t c ≡ true) × (is_getting (t.own c).seat ≡ true)
 went_ready t c zs on =
     let g = in_channels (taken_in t).goings c on in
     let r = taken_ready t g.0 zs g.1.0 in
@@ -105,7 +112,7 @@ pub record Robbed (t : State) (c : ℕ) : Type 0 where
   pub other : (going.channel == c) ≡ false
   pub asks : asks (t.own c).seat (Axis axis) ≡ true
 
-pub left_out : (t : State) (c : ℕ) → Zones (board_of t) → next_taker (taken_in t).board ≡ None → ready t c ≡ true → is_getting (t.own c).seat ≡ true → went t c ≡ false → Robbed t c
+pub left_out : (t : State) (c : ℕ) → Orderly t → next_taker (taken_in t).board ≡ None → ready t c ≡ true → is_getting (t.own c).seat ≡ true → went t c ≡ false → Robbed t c
 unfolding is_met
 left_out t c zs over r get out =
     let all = takings_of t zs in
@@ -114,14 +121,14 @@ left_out t c zs over r get out =
     let listed : among channel_numbers c ≡ true = is_in_list (t.own c).seat get (ready_listed t c (t.own c).seat r) in
     let waits : waits_for_axes (f.state c) ≡ true = ap waits_for_axes state ∙ waits_shown t c (t.own c).seat ∙ get in
     let cannot = no_taker f over c listed in
-    let fails = some_fails (λ x. boards.is_free (f.axis x) || owns f c x) (axes_asked (f.state c)) (second (waits_for_axes (f.state c)) (list_all (λ x. boards.is_free (f.axis x) || owns f c x) (axes_asked (f.state c))) waits cannot) in
+    let fails = some_fails (can_have f c) (axes_asked (f.state c)) (second (waits_for_axes (f.state c)) (list_all (can_have f c) (axes_asked (f.state c))) waits cannot) in
     let x : ℕ = fails.0 in
     let on : asks (t.own c).seat (Axis x) ≡ true = sym (asked_shown t c x (t.own c).seat) ∙ sym (ap (λ (s : Doing). among (axes_asked s) x) state) ∙ fails.1.0 in
     elim (all.axis x) [
       | inl same ↦
           let could : (is_free (t.axis x).owner || mine t c x) ≡ true = met_is t c x (ready_met t c (t.own c).seat (Axis x) r on) in
           let still : (boards.is_free (f.axis x) || owns f c x) ≡ true = ap (λ (a : Ownership). boards.is_free a || is_this (owner_of a) c) same ∙ can_shown t c x ∙ could in
-          no still fails.1.1
+          no (free_or_own f c x (takings_rob_nobody CHANNEL_LIMIT (before_takings t) (goes_rob_nobody (board_of t) zs.none) c) ∙ still) fails.1.1
       | inr g ↦ record {
         axis = x;
         going = g.0;
@@ -147,7 +154,7 @@ left_out t c zs over r get out =
     met_is t c x m = m
 
 -- where what goes on is clean, all that is ready for axes takes
-pub ready_went : (t : State) (c : ℕ) → GoesClean t → Zones (board_of t) → next_taker (taken_in t).board ≡ None → ready t c ≡ true → is_getting (t.own c).seat ≡ true → went t c ≡ true
+pub ready_went : (t : State) (c : ℕ) → GoesClean t → Orderly t → next_taker (taken_in t).board ≡ None → ready t c ≡ true → is_getting (t.own c).seat ≡ true → went t c ≡ true
 ready_went t c clean zs over r get = elim (cases_Bool (went t c)) [
   | inl on ↦ on
   | inr out ↦

@@ -76,7 +76,7 @@ pub asks_holds : (s : Seat) (n : Need) → asks s n ≡ true → holds s ≡ tru
 unfolding asks
 asks_holds (In (IsHolding (AtMarks k named) line)) n a = refl
 asks_holds (In (IsHolding (AtEnds named) line)) n a = refl
-asks_holds (In (IsHolding (AtAxes named) line)) n a = refl
+asks_holds (In (IsHolding (AtAxes from_standing named) line)) n a = refl
 asks_holds (Called p) n a = refl
 asks_holds s n a = absurd (true≢false (sym a))
 
@@ -137,7 +137,7 @@ mark_at (In (IsHolding (AtEnds named) line)) d k a = in_named named a
     in_named : (ns : List ℕ) → list_any (same (Mark d k)) (map (λ (e : ℕ). End e) ns) ≡ true → false ≡ true
     in_named [] h = h
     in_named (e ∷ ns) h = in_named ns h
-mark_at (In (IsHolding (AtAxes named) line)) d k a = in_named named a
+mark_at (In (IsHolding (AtAxes from_standing named) line)) d k a = in_named named a
   where
     in_named : (ns : List ℕ) → list_any (same (Mark d k)) (map (λ (e : ℕ). Axis e) ns) ≡ true → false ≡ true
     in_named [] h = h
@@ -184,7 +184,7 @@ call_needs (In (IsHolding (AtEnds named) line)) r n c a = absurd (in_named named
     in_named : (ns : List ℕ) → list_any (same (Call r)) (map (λ (e : ℕ). End e) ns) ≡ true → ⊥
     in_named [] h = true≢false (sym h)
     in_named (e ∷ ns) h = in_named ns h
-call_needs (In (IsHolding (AtAxes named) line)) r n c a = absurd (in_named named c)
+call_needs (In (IsHolding (AtAxes from_standing named) line)) r n c a = absurd (in_named named c)
   where
     in_named : (ns : List ℕ) → list_any (same (Call r)) (map (λ (e : ℕ). Axis e) ns) ≡ true → ⊥
     in_named [] h = true≢false (sym h)
@@ -234,7 +234,7 @@ in_no_call (IsHolding (AtEnds named) line) r = go named
     go : (ns : List ℕ) → list_any (same (Call r)) (map (λ (e : ℕ). End e) ns) ≡ false
     go [] = refl
     go (n ∷ ns) = go ns
-in_no_call (IsHolding (AtAxes axes) line) r = go axes
+in_no_call (IsHolding (AtAxes from_standing axes) line) r = go axes
   where
     go : (ns : List ℕ) → list_any (same (Call r)) (map (λ (e : ℕ). Axis e) ns) ≡ false
     go [] = refl

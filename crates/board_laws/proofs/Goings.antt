@@ -13,7 +13,7 @@ use Rattle.board_laws.proofs.Absorb.{call_ready}
 use Rattle.board_laws.proofs.Actions.{owns_mine}
 use Rattle.board_laws.proofs.Takings.{IsOf, in_channels, channels_of}
 use Rattle.board_laws.proofs.Shown.{is_quick, is_getting, is_called, quick_goes, axis_getting}
-use Rattle.board_laws.proofs.AtOnce.{taken_in, went, takings_of, goes_state, stays_state, getting_stays, asked_gets, taken_ready, went_ready, ready_went}
+use Rattle.board_laws.proofs.AtOnce.{Orderly, taken_in, went, takings_of, goes_state, stays_state, getting_stays, asked_gets, taken_ready, went_ready, ready_went}
 use Rattle.board_laws.proofs.SettledBoards.{ready_kinds, marks_after, settled_board}
 use Rattle.board_laws.proofs.PutBoards.{put_board, starts_called}
 use Rattle.sync_types.specs.GoingOn.{going_of_start, going_at_once, goings_on}
@@ -23,6 +23,7 @@ use Rattle.sync_types.specs.Turns.{after_step}
 use Rattle.sync_types.specs.declared.Step.{Step}
 use Rattle.board_laws.specs.Machine.{axes_taken, is_running, with_effect, put_own, effect, turn_by}
 use Rattle.board_laws.proofs.Zones.{zones_part}
+use Rattle.sync_types.proofs.FreeTakings.{NobodyRobs, own_part_robs_nobody}
 use Rattle.sync_types.proofs.Settling.{settled}
 use Rattle.sync_types.specs.Boards as boards
 use Rattle.board_laws.specs.Machine.{Own, is_at, settle_own}
@@ -96,7 +97,7 @@ unfolding axes_taken
 took_told t c x = refl
 
 -- who is in the list of those that go on is one of three kinds
-pub went_of : (t : State) (starts : List ℕ) (g : Going) → Zones (board_of t) → ((c : ℕ) → among starts c ≡ is_called (t.own c).seat) → IsOf g (goings_on (board_of t) starts) → Went t g
+pub went_of : (t : State) (starts : List ℕ) (g : Going) → Orderly t → ((c : ℕ) → among starts c ≡ is_called (t.own c).seat) → IsOf g (goings_on (board_of t) starts) → Went t g
 went_of t starts g zs called on = elim (of_append g (map (going_of_start (board_of t)) starts) (map (going_at_once (board_of t)) (goers_at_once (board_of t)) ++ (taken_in t).goings) on) [
   | inl start ↦
       let w = of_map (going_of_start (board_of t)) g starts start in
@@ -143,7 +144,7 @@ went_in_goings t starts c on =
     ap (λ (d : ℕ). among (channels_in (goings_on (board_of t) starts)) d) (sym g.1.1) ∙ channels_of (goings_on (board_of t) starts) g.0 (taken_in_goings t starts g.0 g.1.0)
 
 -- where what goes on is clean, all that is ready is in it
-pub all_in : (t : State) (starts : List ℕ) (c : ℕ) → GoesClean t → Zones (board_of t) → next_taker (after_goings (board_of t)) ≡ None → ((d : ℕ) → among starts d ≡ is_called (t.own d).seat) → ready t c ≡ true
+pub all_in : (t : State) (starts : List ℕ) (c : ℕ) → GoesClean t → Orderly t → next_taker (after_goings (board_of t)) ≡ None → ((d : ℕ) → among starts d ≡ is_called (t.own d).seat) → ready t c ≡ true
     → among (channels_in (goings_on (board_of t) starts)) c ≡ true
 all_in t starts c clean zs over called r = elim (ready_kinds (t.own c).seat (ready_holds t c (t.own c).seat r)) [
   | inl quick ↦ quick_in_goings t starts c r quick
@@ -156,29 +157,32 @@ all_in t starts c clean zs over called r = elim (ready_kinds (t.own c).seat (rea
 -- a step, as its own part and what goes on after it
 pub record Part (t : State) (p : ℕ) (step : Step) : Type 0 where
   pub board : after_own_part (board_of t) p step ≡ board_of (with_effect t p (effect t p step))
-  pub zones : Zones (board_of (with_effect t p (effect t p step)))
+  pub orderly : Orderly (with_effect t p (effect t p step))
   pub over : next_taker (after_goings (board_of (with_effect t p (effect t p step)))) ≡ None
   pub called : (c : ℕ) → among (channels_started (alarm_of (board_of t) p step.action) step.action) c ≡ is_called (put_own t p (effect t p step) c).seat
 
-pub part_of : (t : State) (p : ℕ) (step : Step) → is_running (t.own p).seat ≡ true → ((d r : ℕ) → asks (t.own d).seat (Call r) ≡ false) → Zones (board_of t) → Part t p step
+pub part_of : (t : State) (p : ℕ) (step : Step) → is_running (t.own p).seat ≡ true → ((d r : ℕ) → asks (t.own d).seat (Call r) ≡ false) → Orderly t → Part t p step
 part_of t p step run uncalled zs =
-    let e = put_board t p step run uncalled zs in
+    let e = put_board t p step run uncalled zs.zones in
     record {
       board = e;
-      zones = subst (λ (b : Board). Zones b) e (zones_part (board_of t) p step zs);
+      orderly = record {
+        zones = subst (λ (b : Board). Zones b) e (zones_part (board_of t) p step zs.zones);
+        none = subst (λ (b : Board). NobodyRobs b) e (own_part_robs_nobody (board_of t) p step zs.none);
+      };
       over = ap (λ (b : Board). next_taker (after_goings b)) (sym e) ∙ (settled (board_of t) p step).no_taker;
       called = λ c. starts_called t p step c run uncalled;
     }
 
 -- a clean step of the machine is the board's
-pub turn_board : (t : State) (p : ℕ) (step : Step) → is_running (t.own p).seat ≡ true → ((d r : ℕ) → asks (t.own d).seat (Call r) ≡ false) → Zones (board_of t) → GoesClean (with_effect t p (effect t p step))
+pub turn_board : (t : State) (p : ℕ) (step : Step) → is_running (t.own p).seat ≡ true → ((d r : ℕ) → asks (t.own d).seat (Call r) ≡ false) → Orderly t → GoesClean (with_effect t p (effect t p step))
     → after_step (board_of t) p step ≡ board_of (turn_by t p step)
 turn_board t p step run uncalled zs clean =
     let w = part_of t p step run uncalled zs in
-    ap after_goings w.board ∙ settled_board (with_effect t p (effect t p step)) clean w.zones w.over
+    ap after_goings w.board ∙ settled_board (with_effect t p (effect t p step)) clean w.orderly w.over
 
 -- who does not go on does what it did, and who goes on runs
-pub kept_state : (t : State) (starts : List ℕ) (c : ℕ) → Zones (board_of t) → among (channels_in (goings_on (board_of t) starts)) c ≡ false → (after_goings (board_of t)).state c ≡ doing_of t c (t.own c).seat
+pub kept_state : (t : State) (starts : List ℕ) (c : ℕ) → Orderly t → among (channels_in (goings_on (board_of t) starts)) c ≡ false → (after_goings (board_of t)).state c ≡ doing_of t c (t.own c).seat
 kept_state t starts c zs out =
     let not_went : went t c ≡ false = elim (cases_Bool (went t c)) [ inl on ↦ no (went_in_goings t starts c on) out | inr off ↦ off ] in
     let not_quick : among (goers_at_once (board_of t)) c ≡ false = elim (cases_Bool (among (goers_at_once (board_of t)) c)) [
@@ -187,7 +191,7 @@ kept_state t starts c zs out =
     ] in
     (takings_of t zs).kept c not_went ∙ stays_state t c not_quick
 
-pub gone_runs : (t : State) (starts : List ℕ) (g : Going) → Zones (board_of t) → ((c : ℕ) → among starts c ≡ is_called (t.own c).seat) → IsOf g (goings_on (board_of t) starts)
+pub gone_runs : (t : State) (starts : List ℕ) (g : Going) → Orderly t → ((c : ℕ) → among starts c ≡ is_called (t.own c).seat) → IsOf g (goings_on (board_of t) starts)
     → boards.is_running ((after_goings (board_of t)).state g.channel) ≡ true
 gone_runs t starts g zs called on = elim (of_append g (map (going_of_start (board_of t)) starts) (map (going_at_once (board_of t)) (goers_at_once (board_of t)) ++ (taken_in t).goings) on) [
   | inl start ↦
@@ -230,7 +234,7 @@ second_off true b on h = h
 second_off false b on h = no on refl
 
 -- marks after all that goes on: lowered are those of who went from them
-pub marks_kept : (t : State) (c m : ℕ) → Zones (board_of t) → (ready t c && is_at (t.own c).seat m) ≡ false → (after_goings (board_of t)).marks c m ≡ (t.own c).marks m
+pub marks_kept : (t : State) (c m : ℕ) → Orderly t → (ready t c && is_at (t.own c).seat m) ≡ false → (after_goings (board_of t)).marks c m ≡ (t.own c).marks m
 marks_kept t c m zs off = ap (λ (f : ℕ → ℕ → Bool). f c m) (takings_of t zs).marks ∙ marks_after t c m ∙ go
   where
     go : (settle_own t c).marks m ≡ (t.own c).marks m

@@ -1,10 +1,13 @@
 -- The invariant is kept by both halves of a step.
 use Rattle.std.proofs.Common.{◌≡◌, ℕ, zero, suc, ◌≤◌, ◌==◌, ◌&&◌, not, Bool, true, false, Some, inl, inr, refl, sym, ap, ◌∙◌, arith, if◌then◌else◌}
 use Rattle.std.proofs.lemmas.Bool.{cases_Bool, eqb-true, and_parts, true≢false}
-use Rattle.board_laws.specs.Machine.{Need, Mark, End, Axis, Call, Seat, Own, Cell, State, Effect, Clock, asks, is_at, mine, ready, larger, partner, heard, go_clock, taker, cell_after_taking, settle_own, settle, put_own, with_effect}
+use Rattle.sync_types.proofs.FreeTakings.{NobodyRobs, own_part_robs_nobody}
+use Rattle.sync_types.specs.GoingOn.{takes_from_standing}
+use Rattle.sync_types.specs.declared.Step.{Step}
+use Rattle.board_laws.specs.Machine.{Need, Mark, End, Axis, Call, Seat, Own, Cell, State, Effect, Clock, asks, is_at, mine, ready, larger, partner, heard, go_clock, taker, cell_after_taking, settle_own, settle, put_own, with_effect, doing_of, board_of, own_after_act, effect, In, Called}
 use Rattle.board_laws.specs.Clean.{MarkChange, Stays, Raises, Lowers, IsAct, Inv, Rests}
 use Rattle.board_laws.proofs.Basics.{no, off_from, clock_own, clock_under}
-use Rattle.board_laws.proofs.Parts.{settle_goes, settle_stays, gone_seat, gone_asks, gone_count, gone_past, gone_raised, gone_started, gone_lowered_at, gone_lowered_off, gone_needs_on, gone_needs_off, gone_took_on, gone_took_off, put_same, put_other, touched_kept, Kept, touched_at, axis_off, axis_kept, axis_freed, settle_axis_none, settle_axis_some, cases_first}
+use Rattle.board_laws.proofs.Parts.{settle_goes, settle_stays, gone_seat, gone_asks, gone_count, gone_past, gone_raised, gone_started, gone_lowered_at, gone_lowered_off, gone_needs_on, gone_needs_off, gone_took_on, gone_took_off, put_same, put_other, touched_kept, Kept, touched_seat, touched_at, axis_off, axis_kept, axis_freed, settle_axis_none, settle_axis_some, cases_first}
 use Rattle.board_laws.proofs.Absorb.{other_kept, call_ready}
 use Rattle.board_laws.proofs.Bounds.{freed_by}
 
@@ -206,8 +209,32 @@ settle_inv t inv = record {
   ];
 }
 
-pub settle_rests : (t : State) → Inv t → Rests (settle t)
-settle_rests t inv = record {
+-- who takes axes from channels that stand is told by the seat
+robs_alike : (t u : State) (c : ℕ) (s : Seat) → takes_from_standing (doing_of t c s) ≡ takes_from_standing (doing_of u c s)
+robs_alike t u c (In state) = refl
+robs_alike t u c (Called p) = refl
+
+act_robs_nobody : (b : State) (p : ℕ) (step : Step) → NobodyRobs (board_of b) → takes_from_standing (doing_of b p (effect b p step).own.seat) ≡ false
+unfolding effect own_after_act
+act_robs_nobody b p step none = own_part_robs_nobody (board_of b) p step none p
+
+-- the own part of a step lets nobody take so
+pub put_robs_nobody : (b : State) (p : ℕ) (step : Step) → NobodyRobs (board_of b) → NobodyRobs (board_of (with_effect b p (effect b p step)))
+put_robs_nobody b p step none c = robs_alike (with_effect b p e) b c (put_own b p e c).seat ∙ elim (cases_Bool (c == p)) [
+  | inl i ↦
+      ap (λ (z : ℕ). takes_from_standing (doing_of b z (put_own b p e z).seat)) (eqb-true c p i)
+      ∙ ap (λ (o : Own). takes_from_standing (doing_of b p o.seat)) (put_same b p e) ∙ act_robs_nobody b p step none
+  | inr n ↦ ap (λ (o : Own). takes_from_standing (doing_of b c o.seat)) (put_other b p e c n) ∙ elim (touched_seat e p c (b.own c)) [
+    | inl s ↦ ap (λ (x : Seat). takes_from_standing (doing_of b c x)) s ∙ none c
+    | inr w ↦ ap (λ (x : Seat). takes_from_standing (doing_of b c x)) w.1
+  ]
+]
+  where
+    e : Effect
+    e = effect b p step
+
+pub settle_rests : (t : State) → Inv t → NobodyRobs (board_of t) → Rests (settle t)
+settle_rests t inv none = record {
   inv = settle_inv t inv;
   uncalled = λ c r. elim (cases_Bool (ready t c)) [
     | inl g ↦ ap (λ (o : Own). asks o.seat (Call r)) (settle_goes t c g) ∙ gone_asks t c (Call r)
@@ -215,5 +242,9 @@ settle_rests t inv = record {
       | inl y ↦ no (call_ready t c (t.own c).seat r y) s
       | inr n ↦ ap (λ (o : Own). asks o.seat (Call r)) (settle_stays t c s) ∙ n
     ]
+  ];
+  takes_free = λ c. robs_alike (settle t) t c (settle_own t c).seat ∙ elim (cases_Bool (ready t c)) [
+    | inl g ↦ ap (λ (o : Own). takes_from_standing (doing_of t c o.seat)) (settle_goes t c g) ∙ ap (λ (s : Seat). takes_from_standing (doing_of t c s)) (gone_seat t c)
+    | inr s ↦ ap (λ (o : Own). takes_from_standing (doing_of t c o.seat)) (settle_stays t c s) ∙ none c
   ];
 }

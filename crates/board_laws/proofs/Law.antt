@@ -10,7 +10,7 @@ use Rattle.board_laws.proofs.Absorb.{Joint, absorbed}
 use Rattle.board_laws.proofs.Bounds.{q_stays}
 use Rattle.board_laws.proofs.Forward.{Between, joint_forward, act_forward, goes_forward}
 use Rattle.board_laws.proofs.Back.{joint_back, first_back, act_back, goes_back}
-use Rattle.board_laws.proofs.Invariants.{put_inv, settle_rests}
+use Rattle.board_laws.proofs.Invariants.{put_inv, put_robs_nobody, settle_rests}
 use Rattle.board_laws.proofs.Actions.{act_is}
 use Rattle.board_laws.specs.Laws.{Swapped}
 use Rattle.board_laws.proofs.Swap.{runner_put, effect_settle, effect_put, put_swap, between, disjoint_names, act_first, act_later}
@@ -76,7 +76,7 @@ pub persists : (b : State) (p q : ℕ) (step : Step) → (q == p) ≡ false → 
 persists b p q step qp run_q = ap (λ (o : Own). is_running o.seat) (stays_running b p q step qp run_q) ∙ run_q
 
 pub turn_rests : (b : State) (p : ℕ) (step : Step) → Rests b → Rests (turn_by b p step)
-turn_rests b p step rests = settle_rests (with_effect b p (effect b p step)) (put_inv b p (touches step.action) (effect b p step) rests.inv (act_is b p step))
+turn_rests b p step rests = settle_rests (with_effect b p (effect b p step)) (put_inv b p (touches step.action) (effect b p step) rests.inv (act_is b p step)) (put_robs_nobody b p step rests.takes_free)
 
 -- the same where the steps are those of a script
 pub record ScriptSwapped (script : Script) (b : State) (p q : ℕ) : Type 0 where

@@ -45,6 +45,10 @@ pub gone_program : (t : State) (c : ℕ) → (own_after_go t c).program ≡ (t.o
 unfolding gone_of
 gone_program t c = refl
 
+pub gone_last_position : (t : State) (c : ℕ) → (own_after_go t c).last_position ≡ (t.own c).last_position
+unfolding gone_of
+gone_last_position t c = refl
+
 pub gone_started : (t : State) (c : ℕ) → (own_after_go t c).started ≡ (t.own c).started
 unfolding gone_of
 gone_started t c = refl
@@ -159,6 +163,7 @@ touched_off e p c o y z = rw (y, z) refl
 -- what START and INIT leave alone
 pub record Kept (old new : Own) : Type 0 where
   pub marks : new.marks ≡ old.marks
+  pub last_position : new.last_position ≡ old.last_position
   pub count : new.count ≡ old.count
   pub past : new.past ≡ old.past
   pub raised : new.raised ≡ old.raised
@@ -170,10 +175,10 @@ pub record Kept (old new : Own) : Type 0 where
 pub touched_kept : (e : Effect) (p c : ℕ) (o : Own) → Kept o (own_after_call e p c o)
 unfolding own_after_call
 touched_kept e p c o = elim (cases_Bool (e.calls c && is_idle o.seat)) [
-  | inl y ↦ rw y (record { marks = refl; count = refl; past = refl; raised = refl; lowered = refl; needs = refl; took = refl; started = refl })
+  | inl y ↦ rw y (record { marks = refl; last_position = refl; count = refl; past = refl; raised = refl; lowered = refl; needs = refl; took = refl; started = refl })
   | inr n ↦ elim (cases_Bool (e.selects c && is_idle o.seat)) [
-    | inl y ↦ rw (n, y) (record { marks = refl; count = refl; past = refl; raised = refl; lowered = refl; needs = refl; took = refl; started = refl })
-    | inr m ↦ rw (n, m) (record { marks = refl; count = refl; past = refl; raised = refl; lowered = refl; needs = refl; took = refl; started = refl })
+    | inl y ↦ rw (n, y) (record { marks = refl; last_position = refl; count = refl; past = refl; raised = refl; lowered = refl; needs = refl; took = refl; started = refl })
+    | inr m ↦ rw (n, m) (record { marks = refl; last_position = refl; count = refl; past = refl; raised = refl; lowered = refl; needs = refl; took = refl; started = refl })
   ]
 ]
 

@@ -1,12 +1,12 @@
 -- The own part of a step on the board of a machine.
 use Rattle.std.proofs.Math.Path.{fun_ext}
-use Rattle.std.proofs.Common.{◌≡◌, ℕ, ◌==◌, ◌&&◌, Bool, true, false, Option, None, Some, inl, inr, refl, sym, ap, ◌∙◌, if◌then◌else◌}
+use Rattle.std.proofs.Common.{◌≡◌, ℕ, ℤ, ◌==◌, ◌&&◌, Bool, true, false, Option, None, Some, inl, inr, refl, sym, ap, ◌∙◌, if◌then◌else◌}
 use Rattle.std.proofs.lemmas.Bool.{cases_Bool, eqb-true, true≢false}
 use Rattle.std.specs.List.{list_all}
 use Rattle.axis_sets.specs.Sets.{has, members_of}
 use Rattle.axis_sets.specs.Positions.{position_of}
 use Rattle.sync_types.proofs.BoardTests.{passes, not_not}
-use Rattle.sync_types.specs.BoardActions.{axes_to_free, channels_to_start, channels_started, position_or_zero, program_after, is_on_after, state_after_alarm, state_after_action, marks_of_all, ownership_after, after_effects, after_part, after_own_part}
+use Rattle.sync_types.specs.BoardActions.{axes_to_free, channels_to_start, channels_started, position_or_zero, program_after, is_on_after, last_position_after, state_after_alarm, state_after_action, marks_of_all, ownership_after, after_effects, after_part, after_own_part}
 use Rattle.sync_types.specs.BoardAlarms.{alarm_of}
 use Rattle.sync_types.specs.Boards.{IsIdle, IsRunning, State as Doing, Ownership, OwnedBy, FreeAt, Board, among, is_this, owner_of, ownership_of, owns, positions_where}
 use Rattle.sync_types.specs.Boards as boards
@@ -14,7 +14,7 @@ use Rattle.sync_types.specs.Starts.{first_position}
 use Rattle.sync_types.specs.declared.Action.{Action}
 use Rattle.sync_types.specs.declared.Action.TheVariants.{Init, Start, Release}
 use Rattle.sync_types.specs.declared.Step.{Step}
-use Rattle.board_laws.specs.Machine.{Call, Seat, In, Called, Own, Cell, State, Effect, asks, is_idle, is_running, mine, axes_then_owned, holds_zone, grant_by, places_of, grant_at_go, own_after_call, cell_after_release, put_own, put_axis, put_on, with_effect, doing_of, board_of, own_after_act, axes_freed, selects_program, program_selected, effect}
+use Rattle.board_laws.specs.Machine.{Call, Seat, In, Called, Own, Cell, State, Effect, asks, is_idle, is_running, mine, axes_then_owned, holds_zone, grant_by, places_of, grant_at_go, own_after_call, cell_after_release, put_own, put_axis, put_on, with_effect, doing_of, board_of, own_after_act, axes_freed, selects_program, program_selected, places_told, effect}
 use Rattle.board_laws.specs.Zones.{Zones}
 use Rattle.board_laws.proofs.Basics.{no, called_self}
 use Rattle.board_laws.proofs.Parts.{put_same, put_other, touched_off, touched_kept}
@@ -61,6 +61,10 @@ own_marks t p step = refl
 own_seat : (t : State) (p : ℕ) (step : Step) → (effect t p step).own.seat ≡ In ((after_own_part (board_of t) p step).state p)
 unfolding effect own_after_act
 own_seat t p step = refl
+
+own_last_position : (t : State) (p : ℕ) (step : Step) → (effect t p step).own.last_position ≡ places_told step
+unfolding effect own_after_act
+own_last_position t p step = refl
 
 own_program : (t : State) (p : ℕ) (step : Step) → (effect t p step).own.program ≡ (t.own p).program
 unfolding effect own_after_act
@@ -160,6 +164,29 @@ program_put t p step c run = go (alarm_of (board_of t) p step.action) (by_alarm 
                 | inr n ↦ ap (λ (o : Own). o.program) (put_other t p (effect t p step) c n) ∙ keep_touched (effect t p step) p c (t.own c) (w.selects c ∙ off)
               ])
         ]
+
+-- where axes stood last
+told_here : (t : State) (p : ℕ) (step : Step) (c x : ℕ) → (c == p) ≡ true → last_position_after (board_of t) p step c x ≡ places_told step x
+unfolding last_position_after
+told_here t p step c x i = rw i refl
+
+told_other : (t : State) (p : ℕ) (step : Step) (c x : ℕ) → (c == p) ≡ false → last_position_after (board_of t) p step c x ≡ (t.own c).last_position x
+unfolding last_position_after
+told_other t p step c x n = rw n refl
+
+last_position_put : (t : State) (p : ℕ) (step : Step) (c x : ℕ) → (after_own_part (board_of t) p step).last_position c x ≡ (put_own t p (effect t p step) c).last_position x
+last_position_put t p step c x = go (alarm_of (board_of t) p step.action) ∙ elim (cases_Bool (c == p)) [
+  | inl i ↦
+      told_here t p step c x i
+      ∙ sym (ap (λ (d : ℕ). (put_own t p (effect t p step) d).last_position x) (eqb-true c p i) ∙ ap (λ (o : Own). o.last_position x) (put_same t p (effect t p step)) ∙ ap (λ (f : ℕ → ℤ). f x) (own_last_position t p step))
+  | inr n ↦
+      told_other t p step c x n
+      ∙ sym (ap (λ (o : Own). o.last_position x) (put_other t p (effect t p step) c n) ∙ ap (λ (f : ℕ → ℤ). f x) (touched_kept (effect t p step) p c (t.own c)).last_position)
+]
+  where
+    go : (alarm : Option ℕ) → (after_part (board_of t) p step alarm).last_position c x ≡ last_position_after (board_of t) p step c x
+    go (Some code) = refl
+    go None = refl
 
 -- axes
 cell_kept : (t : State) (p : ℕ) (e : Effect) (x : ℕ) → e.frees x ≡ false → put_axis t p e x ≡ t.axis x
@@ -282,6 +309,7 @@ put_board t p step run uncalled zs =
     (λ c m. marks_put t p step c m)
     (λ c. state_put t p step c run zs uncalled)
     (λ c. program_put t p step c run)
+    (λ c x. last_position_put t p step c x)
     (λ x. axis_put t p step x)
     (holder_by_axes (after_own_part (board_of t) p step) (with_effect t p (effect t p step)) (zones_part (board_of t) p step zs) start (λ x. axis_put t p step x))
     (λ z. on_put t p step z)

@@ -6,7 +6,7 @@ use Rattle.std.specs.List.{list_all, list_any}
 use Rattle.sync_types.proofs.BoardTests.{among_kept}
 use Rattle.sync_types.specs.Boards.{IsIdle, IsRunning, IsHolding, HasEnded, HasAlarmed, AtMarks, AtEnds, AtAxes, State as Doing, Ownership, OwnedBy, FreeAt, Board, among, axis_numbers, channel_numbers, is_this, has_ended, owner_of, ownership_of, owns, no_positions, positions_where, grant_with}
 use Rattle.sync_types.specs.Boards as boards
-use Rattle.sync_types.specs.GoingOn.{axes_asked, waits_for_axes, goes_at_once, goers_at_once, lowers, free_position}
+use Rattle.sync_types.specs.GoingOn.{axes_asked, waits_for_axes, goes_at_once, goers_at_once, lowers, resting_position}
 use Rattle.sync_types.specs.Starts.{first_position}
 use Rattle.sync_types.specs.declared.Grant.{Grant}
 use Rattle.board_laws.specs.Machine.{Need, Mark, End, Axis, Seat, In, Called, State, same, holds, is_listed, asks, is_at, is_ended, is_free, mine, is_met, ready_at, ready, axes_taken, axes_then_owned, grant_by, places_of, grant_at_go, doing_of, board_of}
@@ -26,7 +26,7 @@ is_quick (In state) = false
 is_quick (Called p) = false
 
 abbrev pub is_getting : Seat → Bool
-is_getting (In (IsHolding (AtAxes axes) line)) = true
+is_getting (In (IsHolding (AtAxes from_standing axes) line)) = true
 is_getting (In state) = false
 is_getting (Called p) = false
 
@@ -67,7 +67,7 @@ quick_at t c (In (IsHolding (AtMarks k named) line)) =
 quick_at t c (In (IsHolding (AtEnds named) line)) =
     ap (λ (f : ℕ → Bool). among channel_numbers c && list_all f named) (fun_ext λ d. ended_shown t d (t.own d).seat)
     ∙ ap (λ (b : Bool). among channel_numbers c && b) (sym (all_map (is_met t c) (λ d. End d) named)) ∙ and_true (among channel_numbers c && list_all (is_met t c) (map (λ (d : ℕ). End d) named))
-quick_at t c (In (IsHolding (AtAxes axes) line)) = nothing (among channel_numbers c) (ready_at t c (In (IsHolding (AtAxes axes) line)))
+quick_at t c (In (IsHolding (AtAxes from_standing axes) line)) = nothing (among channel_numbers c) (ready_at t c (In (IsHolding (AtAxes from_standing axes) line)))
 quick_at t c (In state) = nothing (among channel_numbers c) false
 quick_at t c (Called p) = nothing (among channel_numbers c) true
 
@@ -78,7 +78,7 @@ quick_goes t c = among_kept (λ d. goes_at_once (board_of t) ((board_of t).state
 -- the axes for which it asks
 pub asked_shown : (t : State) (c x : ℕ) (s : Seat) → among (axes_asked (doing_of t c s)) x ≡ asks s (Axis x)
 unfolding asks
-asked_shown t c x (In (IsHolding (AtAxes axes) line)) = go axes
+asked_shown t c x (In (IsHolding (AtAxes from_standing axes) line)) = go axes
   where
     go : (xs : List ℕ) → among xs x ≡ list_any (same (Axis x)) (map (λ (a : ℕ). Axis a) xs)
     go [] = refl
@@ -105,7 +105,7 @@ named_shown t c d k line named (Called p) e = let bad : ⊥ = runs_not e in absu
     runs_not e = true≢false (ap (λ (s : Doing). boards.is_running s) e)
 
 pub waits_shown : (t : State) (c : ℕ) (s : Seat) → waits_for_axes (doing_of t c s) ≡ is_getting s
-waits_shown t c (In (IsHolding (AtAxes axes) line)) = refl
+waits_shown t c (In (IsHolding (AtAxes from_standing axes) line)) = refl
 waits_shown t c (In state) = refl
 waits_shown t c (Called p) = refl
 
@@ -119,12 +119,12 @@ at_quick (In (IsHolding (AtMarks k named) line)) m on = refl
 at_quick s m on = absurd (true≢false (sym on))
 
 pub getting_not_quick : (s : Seat) → is_getting s ≡ true → is_quick s ≡ false
-getting_not_quick (In (IsHolding (AtAxes axes) line)) on = refl
+getting_not_quick (In (IsHolding (AtAxes from_standing axes) line)) on = refl
 getting_not_quick s on = absurd (true≢false (sym on))
 
 pub axis_getting : (s : Seat) (x : ℕ) → asks s (Axis x) ≡ true → is_getting s ≡ true
 unfolding asks
-axis_getting (In (IsHolding (AtAxes axes) line)) x on = refl
+axis_getting (In (IsHolding (AtAxes from_standing axes) line)) x on = refl
 axis_getting (In (IsHolding (AtMarks k named) line)) x on = go named on
   where
     go : (xs : List ℕ) → list_any (same (Axis x)) (map (λ (d : ℕ). Mark d k) xs) ≡ true → false ≡ true
@@ -139,7 +139,7 @@ axis_getting s x on = absurd (true≢false (sym on))
 
 axis_needs : (s : Seat) (n : Need) → is_getting s ≡ true → asks s n ≡ true → (x : ℕ) × (n ≡ Axis x)
 unfolding asks
-axis_needs (In (IsHolding (AtAxes axes) line)) n get on = go axes on
+axis_needs (In (IsHolding (AtAxes from_standing axes) line)) n get on = go axes on
   where
     go : (xs : List ℕ) → list_any (same n) (map (λ (a : ℕ). Axis a) xs) ≡ true → (x : ℕ) × (n ≡ Axis x)
     go [] h = absurd (true≢false (sym h))
@@ -155,7 +155,7 @@ unfolding is_met
 getting_ready t c get listed each = ready_from t c (t.own c).seat (getting_holds (t.own c).seat get) (getting_listed (t.own c).seat get) (λ n on. go n (only (t.own c).seat get n on) on)
   where
     getting_holds : (s : Seat) → is_getting s ≡ true → holds s ≡ true
-    getting_holds (In (IsHolding (AtAxes axes) line)) on = refl
+    getting_holds (In (IsHolding (AtAxes from_standing axes) line)) on = refl
     getting_holds s on = absurd (true≢false (sym on))
 
     getting_listed : (s : Seat) → is_getting s ≡ true → is_listed c s ≡ true
@@ -199,13 +199,13 @@ started_grant t c zs call =
 pub taken_grant : (t : State) (c : ℕ) → ready t c ≡ true → is_getting (t.own c).seat ≡ true → taker_grant (board_of t) c ≡ grant_at_go t c (t.own c)
 unfolding grant_at_go axes_then_owned places_of axes_taken
 taken_grant t c r get =
-    ap (λ (f : ℕ → Bool). grant_by t.start c f (positions_where (λ x. among (axes_asked (doing_of t c (t.own c).seat)) x && not (owns (board_of t) c x)) (λ x. free_position ((board_of t).axis x))) t.on (t.own c).program)
+    ap (λ (f : ℕ → Bool). grant_by t.start c f (positions_where (λ x. among (axes_asked (doing_of t c (t.own c).seat)) x && not (owns (board_of t) c x)) (λ x. resting_position (board_of t) x ((board_of t).axis x))) t.on (t.own c).program)
     (fun_ext λ x. ap₂ (λ (a b : Bool). a || b) (asked_shown t c x (t.own c).seat) (owns_mine t c x))
     ∙ ap (λ (at : List (Option ℤ)). grant_by t.start c (λ x. asks (t.own c).seat (Axis x) || mine t c x) at t.on (t.own c).program) (places (t.own c).seat get refl)
   where
-    at_free : (o : Option ℕ) (p : ℤ) → is_free o ≡ true → free_position (ownership_of o p) ≡ p
-    at_free None p f = refl
-    at_free (Some d) p f = no f refl
+    at_free : (x : ℕ) (o : Option ℕ) (p : ℤ) → is_free o ≡ true → resting_position (board_of t) x (ownership_of o p) ≡ p
+    at_free x None p f = refl
+    at_free x (Some d) p f = no f refl
 
     not_mine : (x : ℕ) → asks (t.own c).seat (Axis x) ≡ true → is_free (t.axis x).owner ≡ not (mine t c x)
     not_mine x on = elim (met_axis t c x (ready_met t c (t.own c).seat (Axis x) r on)) [
@@ -214,8 +214,8 @@ taken_grant t c r get =
     ]
 
     places : (s : Seat) → is_getting s ≡ true → (t.own c).seat ≡ s
-        → positions_where (λ x. among (axes_asked (doing_of t c (t.own c).seat)) x && not (owns (board_of t) c x)) (λ x. free_position ((board_of t).axis x)) ≡ places_of t c s
-    places (In state) on e = positions_same (λ x. among (axes_asked (doing_of t c (t.own c).seat)) x && not (owns (board_of t) c x)) (axes_taken t c (In state)) (λ x. free_position ((board_of t).axis x)) (λ a. (t.axis a).position)
+        → positions_where (λ x. among (axes_asked (doing_of t c (t.own c).seat)) x && not (owns (board_of t) c x)) (λ x. resting_position (board_of t) x ((board_of t).axis x)) ≡ places_of t c s
+    places (In state) on e = positions_same (λ x. among (axes_asked (doing_of t c (t.own c).seat)) x && not (owns (board_of t) c x)) (axes_taken t c (In state)) (λ x. resting_position (board_of t) x ((board_of t).axis x)) (λ a. (t.axis a).position)
         (λ x. ap₂ (λ (a b : Bool). a && not b) (asked_shown t c x (t.own c).seat) (owns_mine t c x) ∙ ap (λ (z : Seat). asks z (Axis x) && not (mine t c x)) e)
-        (λ x on. at_free (t.axis x).owner (t.axis x).position (not_mine x (ap (λ (z : Seat). asks z (Axis x)) e ∙ (and_parts (asks (In state) (Axis x)) (not (mine t c x)) on).0) ∙ (and_parts (asks (In state) (Axis x)) (not (mine t c x)) on).1))
+        (λ x on. at_free x (t.axis x).owner (t.axis x).position (not_mine x (ap (λ (z : Seat). asks z (Axis x)) e ∙ (and_parts (asks (In state) (Axis x)) (not (mine t c x)) on).0) ∙ (and_parts (asks (In state) (Axis x)) (not (mine t c x)) on).1))
     places (Called p) on e = no on refl

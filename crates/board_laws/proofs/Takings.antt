@@ -4,10 +4,11 @@ use Rattle.std.proofs.Common.{◌≡◌, ℕ, ℤ, zero, suc, ◌⊎◌, ◌==�
 use Rattle.std.proofs.lemmas.Bool.{cases_Bool, eqb-true, eq-eqb, ne_eqb, and_parts, or_cases, or_left, or_right}
 use Rattle.std.specs.List.{list_all}
 use Rattle.sync_types.proofs.BoardTests.{no_truth, first_passes}
-use Rattle.sync_types.proofs.TakenAxes.{free_is_not_own, may_take, named_and_not_own, taken_is_free}
+use Rattle.sync_types.proofs.FreeTakings.{NobodyRobs, taking_robs_nobody}
+use Rattle.sync_types.proofs.TakenAxes.{free_is_not_own, free_or_own, may_take, named_and_not_own, taken_is_free}
 use Rattle.sync_types.specs.Boards.{IsRunning, State as Doing, Ownership, OwnedBy, FreeAt, Board, among, axis_numbers, channel_numbers, is_this, owner_of, is_free, owns, positions_where}
 use Rattle.sync_types.specs.Events.{channels_in}
-use Rattle.sync_types.specs.GoingOn.{Going, first_of, axes_asked, waits_for_axes, can_take, next_taker, axes_to_take, free_position, ownership_after_taking, state_after_taking, with_its_axes, grant_of_taker, after_taking, going_of_taker, Takings, takings, takings_from}
+use Rattle.sync_types.specs.GoingOn.{Going, first_of, axes_asked, waits_for_axes, can_have, can_take, takes_from_standing, next_taker, axes_to_take, resting_position, ownership_after_taking, state_after_taking, with_its_axes, grant_of_taker, after_taking, going_of_taker, Takings, takings, takings_from}
 use Rattle.sync_types.specs.declared.Grant.{Grant}
 use Rattle.board_laws.specs.Machine.{grant_by}
 use Rattle.board_laws.specs.Zones.{Zones}
@@ -37,7 +38,7 @@ asked b c x = among (axes_asked (b.state c)) x
 
 -- what who takes goes on with
 abbrev pub taker_grant : Board → ℕ → Grant
-taker_grant b c = grant_by b.start c (λ x. asked b c x || owns b c x) (positions_where (λ x. asked b c x && not (owns b c x)) (λ x. free_position (b.axis x))) b.is_on (b.program c)
+taker_grant b c = grant_by b.start c (λ x. asked b c x || owns b c x) (positions_where (λ x. asked b c x && not (owns b c x)) (λ x. resting_position b x (b.axis x))) b.is_on (b.program c)
 
 -- one that has taken, from the board before all takings to the one after all
 pub record Taken (b f : Board) (g : Going) : Type 0 where
@@ -57,10 +58,11 @@ pub record AllTaken (b : Board) (t : Takings) : Type 0 where
   pub start : t.board.start ≡ b.start
   pub marks : t.board.marks ≡ b.marks
   pub program : t.board.program ≡ b.program
+  pub last_position : t.board.last_position ≡ b.last_position
   pub on : t.board.is_on ≡ b.is_on
 
 none_taken : (b : Board) → AllTaken b (record { goings = []; board = b })
-none_taken b = record { each = λ g in_it. absurd in_it; kept = λ c out. refl; axis = λ x. inl refl; start = refl; marks = refl; program = refl; on = refl }
+none_taken b = record { each = λ g in_it. absurd in_it; kept = λ c out. refl; axis = λ x. inl refl; start = refl; marks = refl; program = refl; last_position = refl; on = refl }
 
 owned_is : (a : Ownership) (c : ℕ) → is_this (owner_of a) c ≡ true → a ≡ OwnedBy c
 owned_is (OwnedBy d) c on = ap OwnedBy (eqb-true d c on)
@@ -94,12 +96,12 @@ runs_on : (s : Doing) (g : Grant) → s ≡ IsRunning g → waits_for_axes s ≡
 runs_on s g e = ap waits_for_axes e
 
 -- after a taking a channel that waits owns what it owned
-owns_other : (b : Board) (c d x : ℕ) → can_take b c ≡ true → (d == c) ≡ false → owns (after_taking b c) d x ≡ owns b d x
-owns_other b c d x can other = elim (cases_Bool (among (axes_to_take b c) x)) [
+owns_other : (b : Board) (c d x : ℕ) → takes_from_standing (b.state c) ≡ false → can_take b c ≡ true → (d == c) ≡ false → owns (after_taking b c) d x ≡ owns b d x
+owns_other b c d x none can other = elim (cases_Bool (among (axes_to_take b c) x)) [
   | inr off ↦ ap (λ (a : Ownership). is_this (owner_of a) d) (kept_axis b c x off)
   | inl on ↦
       ap (λ (a : Ownership). is_this (owner_of a) d) (taken_axis b c x on)
-      ∙ ne_eqb c d (λ e. no_truth (d == c) (eq-eqb d c (sym e)) other) ∙ sym (free_is_not_own (b.axis x) d (taken_is_free b c x can on))
+      ∙ ne_eqb c d (λ e. no_truth (d == c) (eq-eqb d c (sym e)) other) ∙ sym (free_is_not_own (b.axis x) d (taken_is_free b c x none can on))
 ]
 
 -- what it can take after it, it can before, and it is the same
@@ -127,9 +129,9 @@ grant_owns b c x = elim (cases_Bool (asked b c x)) [
 grant_taken : (b : Board) (c : ℕ) → Zones b → grant_of_taker b c ≡ taker_grant b c
 unfolding grant_of_taker
 grant_taken b c zs =
-    grant_told (with_its_axes b c) (zones_with b c zs) c (positions_where (among (axes_to_take b c)) (λ x. free_position (b.axis x)))
-    ∙ ap (λ (f : ℕ → Bool). grant_by b.start c f (positions_where (among (axes_to_take b c)) (λ x. free_position (b.axis x))) b.is_on (b.program c)) (fun_ext (grant_owns b c))
-    ∙ ap (λ (f : ℕ → Bool). grant_by b.start c (λ x. asked b c x || owns b c x) (positions_where f (λ x. free_position (b.axis x))) b.is_on (b.program c)) (fun_ext (named_and_not_own b c))
+    grant_told (with_its_axes b c) (zones_with b c zs) c (positions_where (among (axes_to_take b c)) (λ x. resting_position b x (b.axis x)))
+    ∙ ap (λ (f : ℕ → Bool). grant_by b.start c f (positions_where (among (axes_to_take b c)) (λ x. resting_position b x (b.axis x))) b.is_on (b.program c)) (fun_ext (grant_owns b c))
+    ∙ ap (λ (f : ℕ → Bool). grant_by b.start c (λ x. asked b c x || owns b c x) (positions_where f (λ x. resting_position b x (b.axis x))) b.is_on (b.program c)) (fun_ext (named_and_not_own b c))
 
 pub positions_same : (f g : ℕ → Bool) (at bt : ℕ → ℤ) → ((x : ℕ) → f x ≡ g x) → ((x : ℕ) → g x ≡ true → at x ≡ bt x) → positions_where f at ≡ positions_where g bt
 positions_same f g at bt same there = ap (λ (h : ℕ → Option ℤ). map h axis_numbers) (fun_ext (λ x. each x (f x) (g x) (same x) (there x)))
@@ -140,20 +142,25 @@ positions_same f g at bt same there = ap (λ (h : ℕ → Option ℤ). map h axi
     each x false true s t = no_truth true refl (sym s)
     each x false false s t = refl
 
+-- where an axis rests is told by acts alone
+rests_alike : (b : Board) (c x : ℕ) (a : Ownership) → resting_position (after_taking b c) x a ≡ resting_position b x a
+rests_alike b c x (OwnedBy d) = refl
+rests_alike b c x (FreeAt position) = refl
+
 -- a grant after one taking is that before it, of another channel
-grant_later : (b : Board) (c d : ℕ) → can_take b c ≡ true → (d == c) ≡ false
+grant_later : (b : Board) (c d : ℕ) → takes_from_standing (b.state c) ≡ false → can_take b c ≡ true → (d == c) ≡ false
     → ((x : ℕ) → asked (after_taking b c) d x ≡ true → (is_free ((after_taking b c).axis x) || owns (after_taking b c) d x) ≡ true)
     → taker_grant (after_taking b c) d ≡ taker_grant b d
-grant_later b c d takes other can =
+grant_later b c d none takes other can =
     let state : (after_taking b c).state d ≡ b.state d = taken_other b c d other in
     let asks : (x : ℕ) → asked (after_taking b c) d x ≡ asked b d x = λ x. ap (λ (s : Doing). among (axes_asked s) x) state in
     let both : (x : ℕ) → (asked (after_taking b c) d x && not (owns (after_taking b c) d x)) ≡ (asked b d x && not (owns b d x)) = λ x.
-    ap₂ (λ (s t : Bool). s && not t) (asks x) (owns_other b c d x takes other) in
-    ap (λ (f : ℕ → Bool). grant_by b.start d f (positions_where (λ x. asked (after_taking b c) d x && not (owns (after_taking b c) d x)) (λ x. free_position ((after_taking b c).axis x))) b.is_on (b.program d))
-    (fun_ext λ x. ap₂ (λ (s t : Bool). s || t) (asks x) (owns_other b c d x takes other))
+    ap₂ (λ (s t : Bool). s && not t) (asks x) (owns_other b c d x none takes other) in
+    ap (λ (f : ℕ → Bool). grant_by b.start d f (positions_where (λ x. asked (after_taking b c) d x && not (owns (after_taking b c) d x)) (λ x. resting_position (after_taking b c) x ((after_taking b c).axis x))) b.is_on (b.program d))
+    (fun_ext λ x. ap₂ (λ (s t : Bool). s || t) (asks x) (owns_other b c d x none takes other))
     ∙ ap (λ (at : List (Option ℤ)). grant_by b.start d (λ x. asked b d x || owns b d x) at b.is_on (b.program d))
-    (positions_same (λ x. asked (after_taking b c) d x && not (owns (after_taking b c) d x)) (λ x. asked b d x && not (owns b d x)) (λ x. free_position ((after_taking b c).axis x)) (λ x. free_position (b.axis x))
-    both (λ x on. ap free_position (same_axis b c d x other (can x (asks x ∙ (and_parts (asked b d x) (not (owns b d x)) on).0)))))
+    (positions_same (λ x. asked (after_taking b c) d x && not (owns (after_taking b c) d x)) (λ x. asked b d x && not (owns b d x)) (λ x. resting_position (after_taking b c) x ((after_taking b c).axis x)) (λ x. resting_position b x (b.axis x))
+    both (λ x on. rests_alike b c x ((after_taking b c).axis x) ∙ ap (resting_position b x) (same_axis b c d x other (can x (asks x ∙ (and_parts (asked b d x) (not (owns b d x)) on).0)))))
 
 -- what one takes was free before all takings
 pub taken_was_free : (b f : Board) (g : Going) (x : ℕ) → Taken b f g → among g.took x ≡ true → is_free (b.axis x) ≡ true
@@ -165,15 +172,15 @@ taken_was_free b f g x w took =
     ]
 
 -- the first taker, and the others
-first_taken : (b : Board) (c : ℕ) (t : Takings) → Zones b → next_taker b ≡ Some c → AllTaken (after_taking b c) t → Taken b t.board (going_of_taker b c)
-first_taken b c t zs is rest =
+first_taken : (b : Board) (c : ℕ) (t : Takings) → Zones b → takes_from_standing (b.state c) ≡ false → next_taker b ≡ Some c → AllTaken (after_taking b c) t → Taken b t.board (going_of_taker b c)
+first_taken b c t zs none is rest =
     let can = first_passes (can_take b) channel_numbers c is in
-    let parts = and_parts (waits_for_axes (b.state c)) (list_all (λ x. is_free (b.axis x) || owns b c x) (axes_asked (b.state c))) can in
+    let parts = and_parts (waits_for_axes (b.state c)) (list_all (can_have b c) (axes_asked (b.state c))) can in
     record {
       waits = parts.0;
       from = refl;
       listed = first_listed (can_take b) channel_numbers c is;
-      could = λ x on. may_take b c x can on;
+      could = λ x on. sym (free_or_own b c x none) ∙ may_take b c x can on;
       took = named_and_not_own b c;
       has = λ x on.
           let mid : (after_taking b c).axis x ≡ OwnedBy c = elim (cases_Bool (owns b c x)) [
@@ -195,8 +202,8 @@ first_taken b c t zs is rest =
       grant = grant_taken b c zs;
     }
 
-later_taken : (b : Board) (c : ℕ) (t : Takings) (g : Going) → can_take b c ≡ true → AllTaken (after_taking b c) t → IsOf g t.goings → Taken b t.board g
-later_taken b c t g takes rest in_it =
+later_taken : (b : Board) (c : ℕ) (t : Takings) (g : Going) → takes_from_standing (b.state c) ≡ false → can_take b c ≡ true → AllTaken (after_taking b c) t → IsOf g t.goings → Taken b t.board g
+later_taken b c t g none takes rest in_it =
     let w = rest.each g in_it in
     let other : (g.channel == c) ≡ false = elim (cases_Bool (g.channel == c)) [
       | inr off ↦ off
@@ -210,18 +217,18 @@ later_taken b c t g takes rest in_it =
       listed = w.listed;
       could = λ x on.
           let can = w.could x (asks x on) in
-          ap (λ (a : Ownership). is_free a || owns b g.channel x) (sym (same_axis b c g.channel x other can)) ∙ ap (λ (t : Bool). is_free ((after_taking b c).axis x) || t) (sym (owns_other b c g.channel x takes other)) ∙ can;
-      took = λ x. w.took x ∙ ap₂ (λ (s : Doing) (t : Bool). among (axes_asked s) x && not t) state (owns_other b c g.channel x takes other);
+          ap (λ (a : Ownership). is_free a || owns b g.channel x) (sym (same_axis b c g.channel x other can)) ∙ ap (λ (t : Bool). is_free ((after_taking b c).axis x) || t) (sym (owns_other b c g.channel x none takes other)) ∙ can;
+      took = λ x. w.took x ∙ ap₂ (λ (s : Doing) (t : Bool). among (axes_asked s) x && not t) state (owns_other b c g.channel x none takes other);
       has = λ x on. w.has x (asks x on);
       runs = w.runs;
-      grant = w.grant ∙ grant_later b c g.channel takes other w.could;
+      grant = w.grant ∙ grant_later b c g.channel none takes other w.could;
     }
 
-more_taken : (b : Board) (c : ℕ) (t : Takings) → Zones b → next_taker b ≡ Some c → AllTaken (after_taking b c) t → AllTaken b (record { goings = going_of_taker b c ∷ t.goings; board = t.board })
-more_taken b c t zs is rest = record {
+more_taken : (b : Board) (c : ℕ) (t : Takings) → Zones b → takes_from_standing (b.state c) ≡ false → next_taker b ≡ Some c → AllTaken (after_taking b c) t → AllTaken b (record { goings = going_of_taker b c ∷ t.goings; board = t.board })
+more_taken b c t zs none is rest = record {
   each = λ g in_it. elim in_it [
-    | inl here ↦ subst_taken (sym here) (first_taken b c t zs is rest)
-    | inr later ↦ later_taken b c t g (first_passes (can_take b) channel_numbers c is) rest later
+    | inl here ↦ subst_taken (sym here) (first_taken b c t zs none is rest)
+    | inr later ↦ later_taken b c t g none (first_passes (can_take b) channel_numbers c is) rest later
   ];
   kept = λ d out.
       let parts = or_off (c == d) (among (channels_in t.goings) d) out in
@@ -236,6 +243,7 @@ more_taken b c t zs is rest = record {
   start = rest.start;
   marks = rest.marks;
   program = rest.program;
+  last_position = rest.last_position;
   on = rest.on;
 }
   where
@@ -246,10 +254,10 @@ more_taken b c t zs is rest = record {
     subst_taken : {g : Going} → going_of_taker b c ≡ g → Taken b t.board (going_of_taker b c) → Taken b t.board g
     subst_taken {g} e w = subst (λ (h : Going). Taken b t.board h) e w
 
-pub all_taken : (n : ℕ) (b : Board) → Zones b → AllTaken b (takings n b)
-all_taken zero b zs = none_taken b
-all_taken (suc n) b zs = next (all_taken n) (next_taker b) refl
+pub all_taken : (n : ℕ) (b : Board) → Zones b → NobodyRobs b → AllTaken b (takings n b)
+all_taken zero b zs none = none_taken b
+all_taken (suc n) b zs none = next (all_taken n) (next_taker b) refl
   where
-    next : ((a : Board) → Zones a → AllTaken a (takings n a)) → (taker : Option ℕ) → next_taker b ≡ taker → AllTaken b (takings_from (takings n) b taker)
+    next : ((a : Board) → Zones a → NobodyRobs a → AllTaken a (takings n a)) → (taker : Option ℕ) → next_taker b ≡ taker → AllTaken b (takings_from (takings n) b taker)
     next rest None is = none_taken b
-    next rest (Some c) is = more_taken b c (takings n (after_taking b c)) zs is (rest (after_taking b c) (zones_taking b c zs))
+    next rest (Some c) is = more_taken b c (takings n (after_taking b c)) zs (none c) is (rest (after_taking b c) (zones_taking b c zs) (taking_robs_nobody b c none))

@@ -1,8 +1,9 @@
 -- Steps. A step of the machine without a race, what is always so, and what an action may do.
 use Rattle.std.specs.Prelude.{◌≡◌, ℕ, suc, ◌≤◌, ◌==◌, ◌||◌, Bool, true, false}
+use Rattle.sync_types.specs.GoingOn.{takes_from_standing}
 use Rattle.sync_types.specs.Runs.{Script}
 use Rattle.sync_types.specs.declared.Step.{Step}
-use Rattle.board_laws.specs.Machine.{Mark, Axis, Call, Seat, Own, State, Effect, asks, is_at, is_idle, mine, ready, go_clock, with_effect, touches, effect, next_step}
+use Rattle.board_laws.specs.Machine.{Mark, Axis, Call, Seat, Own, State, Effect, asks, is_at, is_idle, mine, ready, go_clock, with_effect, board_of, touches, effect, next_step}
 
 -- one set of own and named channels
 abbrev pub SameSet : ℕ → Seat → ℕ → Seat → ℕ → Type 0
@@ -71,7 +72,8 @@ pub record Inv (t : State) : Type 0 where
   pub started : (c y : ℕ) → (t.own c).started y ≤ (t.own c).count
   pub stands : (c k : ℕ) → is_at (t.own c).seat k ≡ true → (t.own c).marks k ≡ true
 
--- between steps nobody is started
+-- between steps nobody is started, and nobody takes axes from channels that stand
 pub record Rests (t : State) : Type 0 where
   pub inv : Inv t
   pub uncalled : (c r : ℕ) → asks (t.own c).seat (Call r) ≡ false
+  pub takes_free : (c : ℕ) → takes_from_standing ((board_of t).state c) ≡ false

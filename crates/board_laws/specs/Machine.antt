@@ -38,7 +38,7 @@ pub data Seat : Type 0 where
 abbrev pub needs_of : Seat → List Need
 needs_of (In (IsHolding (AtMarks k named) line)) = map (λ (d : ℕ). Mark d k) named
 needs_of (In (IsHolding (AtEnds named) line)) = map (λ (d : ℕ). End d) named
-needs_of (In (IsHolding (AtAxes axes) line)) = map (λ (a : ℕ). Axis a) axes
+needs_of (In (IsHolding (AtAxes from_standing axes) line)) = map (λ (a : ℕ). Axis a) axes
 needs_of (In state) = []
 needs_of (Called p) = Call p ∷ []
 
@@ -86,7 +86,7 @@ pub record Span : Type 0 where
   pub state : Doing
   pub grants : ℕ
 
--- Of a channel: what the board has of it, its grants, the number of its events, the clock of the last, and by
+-- Of a channel: what the board has of it, by their numbers where its axes stood after its last act or at the start, its grants, the number of its events, the clock of the last, and by
 -- the place of each its clock and the span that it begins; the clock of the act that raised a mark last; and
 -- the places of its events that last lowered a mark, needed one, took an axis, and named a channel by INIT or
 -- START.
@@ -94,6 +94,7 @@ pub record Own : Type 0 where
   pub marks : ℕ → Bool
   pub seat : Seat
   pub program : Option ℕ
+  pub last_position : ℕ → ℤ
   pub grants : List Grant
   pub count : ℕ
   pub past : Clock
@@ -225,6 +226,7 @@ gone_of o clock taken grant = record {
   marks = λ (k : ℕ). if is_at o.seat k then false else o.marks k;
   seat = In (IsRunning grant);
   program = o.program;
+  last_position = o.last_position;
   grants = o.grants ++ grant ∷ [];
   count = suc o.count;
   past = clock;
@@ -333,6 +335,7 @@ board_of t = record {
   marks = λ c. (t.own c).marks;
   state = λ c. doing_of t c (t.own c).seat;
   program = λ c. (t.own c).program;
+  last_position = λ c. (t.own c).last_position;
   axis = λ a. ownership_of (t.axis a).owner (t.axis a).position;
   holder = λ z. carrier (first_of (members_of (axes_of_zone t.start z))) (λ a. (t.axis a).owner) (first_holder t.start z);
   is_on = t.on;
@@ -347,12 +350,13 @@ touches other y = false
 abbrev pub act_clock : ℕ → Own → Clock
 act_clock p o = λ (x : ℕ). if x == p then suc o.count else o.past x
 
--- a channel after its act, which leaves these marks and this state
-unfoldable pub own_after_act : ℕ → Own → (ℕ → Bool) → Doing → (ℕ → Bool) → Own
-own_after_act p o marks state names = record {
+-- a channel after its act, which leaves these marks and this state, and its axes at these places
+unfoldable pub own_after_act : ℕ → Own → (ℕ → Bool) → Doing → (ℕ → Bool) → (ℕ → ℤ) → Own
+own_after_act p o marks state names place = record {
   marks = marks;
   seat = In state;
   program = o.program;
+  last_position = place;
   grants = o.grants ++ as_list (grant_in state);
   count = suc o.count;
   past = act_clock p o;
@@ -378,12 +382,16 @@ abbrev pub program_selected : Action → Option ℕ
 program_selected (Init c program) = Some program
 program_selected other = None
 
+-- where a step tells that the axes of its channel stand
+abbrev pub places_told : Step → ℕ → ℤ
+places_told step a = position_or_zero (position_of step.at a)
+
 -- what a step of a channel makes
 unfoldable pub effect : State → ℕ → Step → Effect
 effect b p step = record {
-  own = own_after_act p (b.own p) ((after_own_part (board_of b) p step).marks p) ((after_own_part (board_of b) p step).state p) (touches step.action);
+  own = own_after_act p (b.own p) ((after_own_part (board_of b) p step).marks p) ((after_own_part (board_of b) p step).state p) (touches step.action) (places_told step);
   frees = among (axes_freed (alarm_of (board_of b) p step.action) step.action);
-  place = λ a. position_or_zero (position_of step.at a);
+  place = places_told step;
   calls = among (channels_started (alarm_of (board_of b) p step.action) step.action);
   selects = selects_program (alarm_of (board_of b) p step.action) step.action;
   program = program_selected step.action;

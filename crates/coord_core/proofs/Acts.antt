@@ -1,5 +1,5 @@
 -- What a step changes, on the board as in what is kept.
-use Rattle.std.proofs.Common.{eqb-true, ◌≡◌, ℕ, ℤ, ◌<◌, ◌==◌, ◌&&◌, ◌||◌, not, ◌↔◌, Bool, true, false, cond, List, [], ◌∷◌, filter, length, map, Option, Some, None, is_some, if◌then◌else◌, slice_index_or, refl, sym, ap, ap₂, ◌∙◌}
+use Rattle.std.proofs.Common.{eqb-true, ◌≡◌, ℕ, ℤ, ◌<◌, ◌≤◌, ◌==◌, ◌&&◌, ◌||◌, not, ◌↔◌, Bool, true, false, cond, List, [], ◌∷◌, filter, length, map, Option, Some, None, is_some, if◌then◌else◌, slice_index_or, refl, sym, ap, ap₂, ◌∙◌}
 use Rattle.std.proofs.Math.Path.{fun_ext}
 use Rattle.std.specs.List.{list_any, range_with_len}
 use Rattle.axis_exchange.specs.Owners.{axis_state, free_at, is_owned_by}
@@ -8,10 +8,10 @@ use Rattle.axis_exchange.specs.declared.AxisState.TheVariants.{Owned, Free}
 use Rattle.axis_sets.proofs.SetLaws.{list_any-members_of}
 use Rattle.axis_sets.specs.Positions.{position_of}
 use Rattle.axis_sets.specs.Sets.{has, members_of, IsEmpty}
-use Rattle.axis_sets.specs.declared.limits.TheConstants.{AXIS_LIMIT}
+use Rattle.axis_sets.specs.declared.limits.TheConstants.{AXIS_LIMIT, CHANNEL_PLACES}
 use Rattle.coord_core.proofs.Members.{passing_among}
 use Rattle.coord_core.proofs.ZoneLaws.{holder_handed, on_handed, holder_noted, on_noted, axes_noted, numbers_noted, whole_where_none}
-use Rattle.coord_core.specs.Tables.{activity_at, board_in, state_in, HasPassing, IsTable, ownership_in, holder_in, is_on_in, axes_in, shares, zone_after_step, zone_handed}
+use Rattle.coord_core.specs.Tables.{activity_at, board_in, state_in, HasPassing, IsTable, ownership_in, holder_in, is_on_in, axes_in, last_position_in, shares, zone_after_step, zone_handed}
 use Rattle.coord_core.specs.declared.activities.Activity.{Activity}
 use Rattle.coord_core.specs.declared.activities.Activity.TheVariants.{Running, Alarmed}
 use Rattle.coord_core.specs.declared.table.Table.{Table}
@@ -19,10 +19,11 @@ use Rattle.coord_core.specs.declared.zones.ZoneState.{ZoneState}
 use Rattle.mark_board.specs.Marks.{has_mark}
 use Rattle.set_laws.proofs.MemberLaws.{list_all-at_member}
 use Rattle.sync_types.proofs.BoardTests.{no_truth, not_so, not_not}
-use Rattle.sync_types.specs.BoardActions.{carries, channels_to_start, axes_to_free, marks_after, program_after, position_or_zero, is_on_after, marks_of_all, ownership_after, holder_after, after_effects, state_of_actor, state_after_action, state_after_alarm, after_alarm}
+use Rattle.sync_types.specs.BoardActions.{carries, channels_to_start, axes_to_free, marks_after, program_after, position_or_zero, last_position_after, is_on_after, marks_of_all, ownership_after, holder_after, after_effects, state_of_actor, state_after_action, state_after_alarm, after_alarm}
 use Rattle.sync_types.specs.BoardAlarms.{alarm_of, names_no_mark, names_no_channel, names_no_axis, lets_go_of_others, splits_a_zone, finds_own_mark, finds_one_awake, starts_without_program, own_alarm}
 use Rattle.sync_types.specs.Boards.{State, IsRunning, Board, FreeAt, among, is_this, owner_of, owns, grant_with, start_grant, no_positions}
 use Rattle.sync_types.specs.GoingOn.{going_of_start, goers_at_once, goes_at_once, lowers, marks_after_goes, state_after_goes, after_goes}
+use Rattle.sync_types.specs.Views.{StartView}
 use Rattle.sync_types.specs.declared.Action.{Action}
 use Rattle.sync_types.specs.declared.Action.TheVariants.{WaitM, ClearM, WaitE, Release, Get, End}
 use Rattle.sync_types.specs.declared.Grant.{Grant}
@@ -62,11 +63,12 @@ no_alarm b c action none =
 
 -- boards that agree in each place
 pub same_boards : (a b : Board) → a.start ≡ b.start → ((c m : ℕ) → a.marks c m ≡ b.marks c m) → ((c : ℕ) → a.state c ≡ b.state c) → ((c : ℕ) → a.program c ≡ b.program c)
-    → ((x : ℕ) → a.axis x ≡ b.axis x) → ((z : ℕ) → a.holder z ≡ b.holder z) → ((z : ℕ) → a.is_on z ≡ b.is_on z) → a ≡ b
-same_boards a b start marks state program axis holder on =
+    → ((c x : ℕ) → a.last_position c x ≡ b.last_position c x) → ((x : ℕ) → a.axis x ≡ b.axis x) → ((z : ℕ) → a.holder z ≡ b.holder z) → ((z : ℕ) → a.is_on z ≡ b.is_on z) → a ≡ b
+same_boards a b start marks state program last axis holder on =
     let m : a.marks ≡ b.marks = fun_ext (λ c. fun_ext (marks c)) in
     let s : a.state ≡ b.state = fun_ext state in
     let p : a.program ≡ b.program = fun_ext program in
+    let l : a.last_position ≡ b.last_position = fun_ext (λ c. fun_ext (last c)) in
     let x : a.axis ≡ b.axis = fun_ext axis in
     let h : a.holder ≡ b.holder = fun_ext holder in
     let o : a.is_on ≡ b.is_on = fun_ext on in
@@ -74,21 +76,37 @@ same_boards a b start marks state program axis holder on =
     ∙ ap (λ v. record a { start = b.start; marks = v }) m
     ∙ ap (λ v. record a { start = b.start; marks = b.marks; state = v }) s
     ∙ ap (λ v. record a { start = b.start; marks = b.marks; state = b.state; program = v }) p
-    ∙ ap (λ v. record a { start = b.start; marks = b.marks; state = b.state; program = b.program; axis = v }) x
-    ∙ ap (λ v. record a { start = b.start; marks = b.marks; state = b.state; program = b.program; axis = b.axis; holder = v }) h
+    ∙ ap (λ v. record a { start = b.start; marks = b.marks; state = b.state; program = b.program; last_position = v }) l
+    ∙ ap (λ v. record a { start = b.start; marks = b.marks; state = b.state; program = b.program; last_position = b.last_position; axis = v }) x
+    ∙ ap (λ v. record a { start = b.start; marks = b.marks; state = b.state; program = b.program; last_position = b.last_position; axis = b.axis; holder = v }) h
     ∙ ap (λ v. record b { is_on = v }) o
+
+-- a step tells where the axes of its channel stand
+pub positions_told : (t : Table) (rows : List (Option (List (Option ℤ)))) (channels : List Activity) (c : ℕ) (step : Step)
+    → ((d : ℕ) → slice_index_or rows d None ≡ (if d == c then Some step.at else slice_index_or t.last_positions d None))
+    → (d x : ℕ) → last_position_in t.start (slice_index_or rows d None) x ≡ last_position_after (board_in t channels) c step d x
+unfolding last_position_after
+positions_told t rows channels c step told d x = ap (λ (row : Option (List (Option ℤ))). last_position_in t.start row x) (told d) ∙ by_owner (d == c)
+  where
+    by_owner : (own : Bool) → last_position_in t.start (if own then Some step.at else slice_index_or t.last_positions d None) x
+        ≡ (if own then position_or_zero (position_of step.at x) else last_position_in t.start (slice_index_or t.last_positions d None) x)
+    by_owner true = refl
+    by_owner false = refl
 
 -- the effects of an action
 pub effects_board : (t now : Table) (channels : List Activity) (c : ℕ) (step : Step) → now.start ≡ t.start
     → ((d m : ℕ) → has_mark now.marks d m ≡ (if d == c then marks_after (has_mark t.marks c) step.action m else has_mark t.marks d m))
     → ((d : ℕ) → slice_index_or now.programs d None ≡ program_after step.action d (slice_index_or t.programs d None))
+    → ((d : ℕ) → slice_index_or now.last_positions d None ≡ (if d == c then Some step.at else slice_index_or t.last_positions d None))
     → ((x : ℕ) → ownership_in (axis_state now.owners x) ≡ ownership_after (board_in t channels) step x)
     → ((z : ℕ) → holder_in now.zones.items z ≡ holder_after (board_in t channels) step z)
     → ((z : ℕ) → is_on_in now.zones.items z ≡ is_on_after (board_in t channels) c step z)
     → board_in now channels ≡ after_effects (board_in t channels) c step
 unfolding marks_of_all
-effects_board t now channels c step start marks programs axes holders on =
-    same_boards (board_in now channels) (after_effects (board_in t channels) c step) start marks (λ d. refl) programs axes holders on
+effects_board t now channels c step start marks programs told axes holders on =
+    same_boards (board_in now channels) (after_effects (board_in t channels) c step) start marks (λ d. refl) programs
+    (λ d x. ap (λ (s : StartView). last_position_in s (slice_index_or now.last_positions d None) x) start ∙ positions_told t now.last_positions channels c step told d x)
+    axes holders on
 
 -- an action that lets nothing go
 nothing_freed : (action : Action) → ((axes : List Bool) → action ≡ Release axes → ⊥) → axes_to_free action ≡ []
@@ -153,6 +171,21 @@ pub on_freed : (t : Table) (zones noted : List ZoneState) (channels : List Activ
 on_freed t zones noted channels c step axes told handed z =
     ap (λ (zs : List ZoneState). is_on_in zs z) handed ∙ on_handed axes None noted z ∙ on_told t noted channels c step told z
 
+-- an axis that is free has no owner
+free_unowned : (place : Option ℤ) (d : ℕ) → free_at place ≡ Some (Owned d) → ⊥
+free_unowned (Some p) d is = cc
+free_unowned None d is = cc
+
+-- who owns an axis after a RELEASE owned it before
+pub numbers_freed : (t : Table) (owners : List (Option AxisState)) (axes : List Bool) (at : List (Option ℤ)) → IsTable t
+    → ((x : ℕ) → axis_state owners x ≡ (if has axes x then free_at (position_of at x) else axis_state t.owners x))
+    → (x d : ℕ) → axis_state owners x ≡ Some (Owned d) → (1 ≤ d) × (d < CHANNEL_PLACES)
+numbers_freed t owners axes at kept freed x d is = each (has axes x) (sym (freed x) ∙ is)
+  where
+    each : (b : Bool) → (if b then free_at (position_of at x) else axis_state t.owners x) ≡ Some (Owned d) → (1 ≤ d) × (d < CHANNEL_PLACES)
+    each true owned = absurd (free_unowned (position_of at x) d owned)
+    each false owned = kept.owner_numbers x d owned
+
 -- what is kept of zones
 pub numbers_after : (t : Table) (noted : List ZoneState) (c : ℕ) (on : List Bool) → noted ≡ map (zone_after_step c on) t.zones.items → map (λ zone. zone.zone) noted ≡ map (λ zone. zone.zone) t.zones.items
 numbers_after t noted c on told = ap (map (λ (zone : ZoneState). zone.zone)) told ∙ numbers_noted c on t.zones.items
@@ -204,12 +237,14 @@ unfolding start_grant grant_with
 starts_alike t one other = refl
 
 -- after an alarm
-pub alarmed_board : (t : Table) (zones : List ZoneState) (before after : List Activity) (c : ℕ) (step : Step) (code : ℕ) → zones ≡ map (zone_after_step c step.on) t.zones.items
+pub alarmed_board : (t : Table) (zones : List ZoneState) (rows : List (Option (List (Option ℤ)))) (before after : List Activity) (c : ℕ) (step : Step) (code : ℕ) → zones ≡ map (zone_after_step c step.on) t.zones.items
+    → ((d : ℕ) → slice_index_or rows d None ≡ (if d == c then Some step.at else slice_index_or t.last_positions d None))
     → ((d : ℕ) → activity_at after d ≡ (if d == c then Alarmed (record { code = code; line = step.line }) else activity_at before d))
-    → board_in (record t { zones = record { items = zones } }) after ≡ after_alarm (board_in t before) c step code
+    → board_in (record t { zones = record { items = zones }; last_positions = rows }) after ≡ after_alarm (board_in t before) c step code
 unfolding state_after_alarm
-alarmed_board t zones before after c step code told writes =
-    same_boards (board_in (record t { zones = record { items = zones } }) after) (after_alarm (board_in t before) c step code) refl (λ d m. refl) states (λ d. refl) (λ x. refl)
+alarmed_board t zones rows before after c step code told stand writes =
+    same_boards (board_in (record t { zones = record { items = zones }; last_positions = rows }) after) (after_alarm (board_in t before) c step code) refl (λ d m. refl) states (λ d. refl)
+    (positions_told t rows before c step stand) (λ x. refl)
     (λ z. ap (λ (zs : List ZoneState). holder_in zs z) told ∙ holder_noted c step.on t.zones.items z)
     (on_told t zones before c step told)
   where
@@ -231,7 +266,7 @@ gone_board t marks before after goers passing lowered runs =
     same_boards (board_in (record t { marks = marks }) after) (after_goes (board_in t before)) refl
     (λ c m. lowered c m ∙ ap (λ (goes : Bool). has_mark t.marks c m && not (goes && lowers (state_in c (activity_at before c)) m)) (same c))
     (λ c. ap (state_in c) (runs c) ∙ chosen (has goers c) c ∙ ap (λ (goes : Bool). if goes then IsRunning (grant_with (board_in t before) c no_positions) else state_in c (activity_at before c)) (same c))
-    (λ c. refl) (λ x. refl) (λ z. refl) (λ z. refl)
+    (λ c. refl) (λ c x. refl) (λ x. refl) (λ z. refl) (λ z. refl)
   where
     same : (c : ℕ) → has goers c ≡ among (goers_at_once (board_in t before)) c
     same c = passing_among goers (λ d. goes_at_once (board_in t before) (state_in d (activity_at before d))) passing c

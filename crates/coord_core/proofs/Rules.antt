@@ -2,21 +2,21 @@
 use Rattle.std.proofs.Common.{inl, inr, ◌≡◌, ℕ, ◌+◌, ◌-◌, ◌<◌, ◌≤◌, ◌==◌, ◌&&◌, ◌||◌, Bool, true, false, cond, List, [], ◌∷◌, ◌++◌, map, filter, length, append_assoc, append-nil, Option, Some, None, is_some, suc, if◌then◌else◌, refl, sym, ap, ◌∙◌, arith}
 use Rattle.std.proofs.lemmas.Bool.{cases_Bool, cases_eq, cases_lt, eq-eqb, ne_eqb}
 use Rattle.std.specs.List.{list_all, range_with_len}
-use Rattle.axis_exchange.specs.Owners.{axis_state, may_take, may_take_all}
+use Rattle.axis_exchange.specs.Owners.{axis_state, may_take_from, may_take_all_from}
 use Rattle.axis_exchange.specs.declared.AxisState.{AxisState}
 use Rattle.axis_exchange.specs.declared.AxisState.TheVariants.{Owned, Free}
 use Rattle.axis_sets.proofs.SetLaws.{has-past}
 use Rattle.axis_sets.specs.Sets.{has, members_of}
 use Rattle.axis_sets.specs.declared.limits.TheConstants.{AXIS_LIMIT, CHANNEL_PLACES}
 use Rattle.coord_core.proofs.Members.{next_kept}
-use Rattle.coord_core.specs.Tables.{activity_at, board_in, state_in, IsTable, ownership_in}
+use Rattle.coord_core.specs.Tables.{activity_at, board_in, state_in, HasPassing, IsTable, ownership_in}
 use Rattle.coord_core.specs.declared.activities.Activity.{Activity}
 use Rattle.coord_core.specs.declared.activities.Activity.TheVariants.{AtAxes}
 use Rattle.coord_core.specs.declared.table.Table.{Table}
 use Rattle.set_laws.proofs.MemberLaws.{has-below, list_all-members_of, list_all-at_member}
 use Rattle.sync_types.proofs.BoardTests.{no_truth}
-use Rattle.sync_types.specs.Boards.{channel_numbers, is_free, is_this, owner_of, owns}
-use Rattle.sync_types.specs.GoingOn.{Going, go_of, axes_asked, waits_for_axes, can_take}
+use Rattle.sync_types.specs.Boards.{channel_numbers, owner_of, stands}
+use Rattle.sync_types.specs.GoingOn.{Going, go_of, axes_asked, waits_for_axes, may_be_taken, takes_from_standing, can_take}
 use Rattle.sync_types.specs.declared.runs.Go.{Go}
 
 -- the goes of these channels
@@ -53,37 +53,46 @@ pub goes_all : (going : ℕ → Going) (s : List Bool) (goes : List Go) → memb
     → goes ≡ goes_of going (members_of s)
 goes_all going s goes members all = sym (append-nil goes) ∙ sym all ∙ ap (λ (cs : List ℕ). goes_of going cs) (sym members)
 
--- a channel may take what is free or its own, on the board as in the owners
-may_alike : (s : Option AxisState) (c : ℕ) → is_some s ≡ true → may_take s c ≡ (is_free (ownership_in s) || is_this (owner_of (ownership_in s)) c)
-may_alike (Some (Owned owner)) c some = refl
-may_alike (Some (Free position)) c some = refl
-may_alike None c some = no_truth false some refl
+-- what a channel may take, on the board as in the owners
+may_alike : (t : Table) (channels : List Activity) (c : ℕ) (from_standing : Bool) (standing : List Bool) → IsTable t → HasPassing standing (λ d. from_standing && stands (state_in d (activity_at channels d)))
+    → (x : ℕ) → x < AXIS_LIMIT → may_take_from (axis_state t.owners x) c standing ≡ may_be_taken (board_in t channels) c from_standing (owner_of ((board_in t channels).axis x))
+may_alike t channels c from_standing standing kept passing x below = each (axis_state t.owners x) refl (kept.owners x below)
+  where
+    each : (s : Option AxisState) → axis_state t.owners x ≡ s → is_some s ≡ true → may_take_from s c standing ≡ may_be_taken (board_in t channels) c from_standing (owner_of (ownership_in s))
+    each (Some (Owned owner)) is some =
+        let number = kept.owner_numbers x owner is in
+        ap (λ (b : Bool). (owner == c) || b) (passing.channels owner number.0 number.1)
+    each (Some (Free position)) is some = refl
+    each None is some = no_truth false some refl
 
-pub may_all_alike : (t : Table) (channels : List Activity) (c : ℕ) (axes : List Bool) → IsTable t → length axes ≡ AXIS_LIMIT
-    → may_take_all t.owners c axes ≡ list_all (λ x. is_free ((board_in t channels).axis x) || owns (board_in t channels) c x) (members_of axes)
-may_all_alike t channels c axes kept size = elim (cases_Bool (may_take_all t.owners c axes)) [
+may_all_alike : (t : Table) (channels : List Activity) (c : ℕ) (axes : List Bool) (from_standing : Bool) (standing : List Bool) → IsTable t → length axes ≡ AXIS_LIMIT
+    → HasPassing standing (λ d. from_standing && stands (state_in d (activity_at channels d)))
+    → may_take_all_from t.owners c axes standing ≡ list_all (λ x. may_be_taken (board_in t channels) c from_standing (owner_of ((board_in t channels).axis x))) (members_of axes)
+may_all_alike t channels c axes from_standing standing kept size passing = elim (cases_Bool (may_take_all_from t.owners c axes standing)) [
   | inl may ↦ may ∙ sym (list_all-members_of axes can (λ x member. sym (each x member) ∙ list_all-at_member axes test x may member))
   | inr not_may ↦ elim (cases_Bool (list_all can (members_of axes))) [
-    | inl all ↦ no_truth (may_take_all t.owners c axes) (list_all-members_of axes test (λ x member. each x member ∙ list_all-at_member axes can x all member)) not_may
+    | inl all ↦ no_truth (may_take_all_from t.owners c axes standing) (list_all-members_of axes test (λ x member. each x member ∙ list_all-at_member axes can x all member)) not_may
     | inr none ↦ not_may ∙ sym none
   ]
 ]
   where
     test : ℕ → Bool
-    test x = may_take (axis_state t.owners x) c
+    test x = may_take_from (axis_state t.owners x) c standing
 
     can : ℕ → Bool
-    can x = is_free ((board_in t channels).axis x) || owns (board_in t channels) c x
+    can x = may_be_taken (board_in t channels) c from_standing (owner_of ((board_in t channels).axis x))
 
-    each : (x : ℕ) → has axes x ≡ true → may_take (axis_state t.owners x) c ≡ (is_free ((board_in t channels).axis x) || owns (board_in t channels) c x)
-    each x member = may_alike (axis_state t.owners x) c (kept.owners x (omega (arith, has-below axes x member, size)))
+    each : (x : ℕ) → has axes x ≡ true → may_take_from (axis_state t.owners x) c standing ≡ may_be_taken (board_in t channels) c from_standing (owner_of ((board_in t channels).axis x))
+    each x member = may_alike t channels c from_standing standing kept passing x (omega (arith, has-below axes x member, size))
 
 -- whether a channel that waits for these axes can take them
-pub can_take_alike : (t : Table) (channels : List Activity) (c : ℕ) (axes : List Bool) (line : ℕ) → IsTable t → length axes ≡ AXIS_LIMIT → activity_at channels c ≡ AtAxes axes line
-    → may_take_all t.owners c axes ≡ can_take (board_in t channels) c
-can_take_alike t channels c axes line kept size is =
-    may_all_alike t channels c axes kept size
-    ∙ ap (λ (a : Activity). waits_for_axes (state_in c a) && list_all (λ x. is_free ((board_in t channels).axis x) || owns (board_in t channels) c x) (axes_asked (state_in c a))) (sym is)
+pub can_take_alike : (t : Table) (channels : List Activity) (c : ℕ) (axes : List Bool) (from_standing : Bool) (line : ℕ) (standing : List Bool) → IsTable t → length axes ≡ AXIS_LIMIT
+    → HasPassing standing (λ d. from_standing && stands (state_in d (activity_at channels d)))
+    → activity_at channels c ≡ AtAxes from_standing axes line → may_take_all_from t.owners c axes standing ≡ can_take (board_in t channels) c
+can_take_alike t channels c axes from_standing line standing kept size passing is =
+    may_all_alike t channels c axes from_standing standing kept size passing
+    ∙ ap (λ (a : Activity). waits_for_axes (state_in c a)
+    && list_all (λ x. may_be_taken (board_in t channels) c (takes_from_standing (state_in c a)) (owner_of ((board_in t channels).axis x))) (axes_asked (state_in c a))) (sym is)
 
 -- one more channel is written, or not
 pub written_more : (old now new : List Activity) (p : ℕ → Bool) (f : ℕ → Activity) (i : ℕ) (v : Activity) → p i ≡ true → v ≡ f i

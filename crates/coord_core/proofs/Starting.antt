@@ -8,6 +8,7 @@ use Rattle.std.specs.List.{list_any, range_with_len}
 use Rattle.std.specs.Option.{option_map, option_map_or}
 use Rattle.axis_exchange.specs.Owners.{axis_state, first_state, state_with}
 use Rattle.axis_exchange.specs.declared.AxisState.{AxisState}
+use Rattle.axis_exchange.specs.declared.AxisState.TheVariants.{Owned}
 use Rattle.axis_sets.proofs.SetLaws.{has-past}
 use Rattle.axis_sets.specs.Sets.{has}
 use Rattle.axis_sets.specs.declared.limits.TheConstants.{AXIS_LIMIT, CHANNEL_PLACES}
@@ -17,8 +18,9 @@ use Rattle.coord_core.specs.declared.table.Table.{Table}
 use Rattle.coord_core.specs.Tables.{activity_at, board_in, state_in, ownership_in, zone_in, holder_in, is_on_in, axes_in, zone_at_start}
 use Rattle.coord_core.specs.declared.zones.ZoneState.{ZoneState}
 use Rattle.sync_types.proofs.BoardTests.{no_truth}
-use Rattle.sync_types.specs.Boards.{Board, IsRunning, IsIdle, board_at_rest, first_state as state_at_first, grant_with, ownership_of, start_grant}
-use Rattle.sync_types.specs.Starts.{runs_at_first}
+use Rattle.set_laws.proofs.MemberLaws.{has-below}
+use Rattle.sync_types.specs.Boards.{Board, IsRunning, IsIdle, OwnedBy, board_at_rest, first_state as state_at_first, grant_with, ownership_of, start_grant}
+use Rattle.sync_types.specs.Starts.{first_owner, first_position, runs_at_first, IsSound}
 use Rattle.sync_types.specs.Views.{StartView}
 use Rattle.sync_types.specs.declared.Grant.{Grant}
 
@@ -99,6 +101,24 @@ programs_at_first programs lines known n end size each zeroth listed none known_
   where
     absent : has known c ≡ false → option_map_or (λ line. line.1) (find (λ line. line.0 == c) lines) None ≡ None
     absent out = none_listed (λ (line : ℕ × Option ℕ × Bool). line.0 == c) (λ line. line.1) None lines (sym (listed c) ∙ out)
+
+-- the numbers of owners
+pub numbers_at_first_owner : (start : StartView) (owners : List (Option AxisState)) (known : List Bool) → IsSound start
+    → ((c : ℕ) → has known c ≡ list_any (λ line. line.0 == c) start.channels) → has known 0 ≡ false → length known ≡ CHANNEL_PLACES
+    → ((x : ℕ) → ownership_in (axis_state owners x) ≡ ownership_of (first_owner start x) (first_position start x))
+    → (x d : ℕ) → axis_state owners x ≡ Some (Owned d) → (1 ≤ d) × (d < CHANNEL_PLACES)
+numbers_at_first_owner start owners known sound listed none size first x d is =
+    let owned : first_owner start x ≡ Some d = owner_is (first_owner start x) (first_position start x) (sym (first x) ∙ ap ownership_in is) in
+    let member : has known d ≡ true = listed d ∙ sound.owners x d owned in
+    (positive d member, omega (arith, has-below known d member, size))
+  where
+    owner_is : (owner : Option ℕ) (position : ℤ) → ownership_of owner position ≡ OwnedBy d → owner ≡ Some d
+    owner_is (Some e) position is = cc
+    owner_is None position is = cc
+
+    positive : (c : ℕ) → has known c ≡ true → 1 ≤ c
+    positive zero on = no_truth (has known 0) on none
+    positive (suc n) on = omega arith
 
 -- zones
 pub zone_at_first : (lines : List (ℕ × List Bool × Option ℕ × Bool)) (z : ℕ) → zone_in (map zone_at_start lines) z ≡ option_map zone_at_start (find (λ line. line.0 == z) lines)

@@ -1,41 +1,42 @@
 -- A channel takes the axes for which it waits.
-use Rattle.std.proofs.Common.{◌≡◌, ℕ, ℤ, pos, zero, suc, ◌+◌, ◌-◌, ◌<◌, ◌==◌, ◌&&◌, not, Bool, true, false, cond, List, [], ◌∷◌, ◌++◌, map, filter, length, append_assoc, Option, Some, None, is_some, if◌then◌else◌, refl, sym, ap, ap₂, ◌∙◌, arith}
+use Rattle.std.proofs.Common.{eqb-true, ◌≡◌, ℕ, ℤ, zero, suc, ◌+◌, ◌-◌, ◌<◌, ◌≤◌, ◌==◌, ◌&&◌, ◌||◌, not, Bool, true, false, cond, List, [], ◌∷◌, ◌++◌, map, filter, length, append_assoc, Option, Some, None, is_some, if◌then◌else◌, refl, sym, ap, ap₂, subst, ◌∙◌, arith}
 use Rattle.std.proofs.Math.Path.{fun_ext}
 use Rattle.std.specs.List.{list_any, range_with_len}
-use Rattle.axis_exchange.specs.Owners.{axis_state, is_owned_by, is_free as may_be_taken, is_free_among, may_take, may_take_all, position_if_free}
+use Rattle.axis_exchange.specs.Owners.{axis_state, is_owned_by, is_known, position_when_taken}
 use Rattle.axis_exchange.specs.declared.AxisState.{AxisState}
 use Rattle.axis_exchange.specs.declared.AxisState.TheVariants.{Owned, Free}
 use Rattle.axis_sets.proofs.SetLaws.{list_any-members_of}
 use Rattle.axis_sets.specs.Positions.{position_of}
 use Rattle.axis_sets.specs.Sets.{has, members_of}
-use Rattle.axis_sets.specs.declared.limits.TheConstants.{AXIS_LIMIT, CHANNEL_LIMIT}
+use Rattle.axis_sets.specs.declared.limits.TheConstants.{AXIS_LIMIT, CHANNEL_LIMIT, CHANNEL_PLACES}
 use Rattle.coord_core.proofs.Acts.{same_boards}
 use Rattle.coord_core.proofs.GrantLaws.{owned_alike, positions_listed}
 use Rattle.coord_core.proofs.ZoneLaws.{holder_handed, on_handed, axes_handed, numbers_handed}
-use Rattle.coord_core.specs.Tables.{activity_at, board_in, state_in, IsTable, ownership_in, holder_in, is_on_in, axes_in, zone_handed}
+use Rattle.coord_core.specs.Tables.{activity_at, board_in, state_in, IsTable, ownership_in, holder_in, is_on_in, axes_in, resting_in, zone_handed}
 use Rattle.coord_core.specs.declared.activities.Activity.{Activity}
 use Rattle.coord_core.specs.declared.activities.Activity.TheVariants.{Running, AtAxes}
 use Rattle.coord_core.specs.declared.table.Table.{Table}
 use Rattle.coord_core.specs.declared.zones.ZoneState.{ZoneState}
-use Rattle.set_laws.proofs.MemberLaws.{list_all-at_member}
-use Rattle.sync_types.proofs.BoardTests.{no_truth}
 use Rattle.sync_types.specs.Boards.{State, IsRunning, Board, OwnedBy, among, grant_with, is_this, owner_of}
-use Rattle.sync_types.specs.GoingOn.{go_of, axes_asked, axes_to_take, free_position, ownership_after_taking, holder_after_taking, with_its_axes, grant_of_taker, state_after_taking, after_taking, going_of_taker, next_taker, Takings, takings, takings_from}
+use Rattle.sync_types.specs.GoingOn.{go_of, axes_asked, axes_to_take, resting_position, ownership_after_taking, holder_after_taking, with_its_axes, grant_of_taker, state_after_taking, after_taking, going_of_taker, next_taker, Takings, takings, takings_from}
 use Rattle.sync_types.specs.Starts.{stand_once}
 use Rattle.sync_types.specs.declared.Grant.{Grant}
 use Rattle.sync_types.specs.declared.runs.Go.{Go}
 
--- what is known where a channel takes axes: what it asked for, what of that it had, and what it got
+-- what is known where a channel takes axes: what it asked for, what of that it had, where the others stand, and what it got
 pub record Takes (t : Table) (channels : List Activity) (c : ℕ) (axes own taken : List Bool) (line : ℕ) (owners : List (Option AxisState)) (at : List (Option ℤ)) : Type 0 where
+  pub from_standing : Bool
+  pub resting : List (Option ℤ)
+  pub number : (1 ≤ c) × (c < CHANNEL_PLACES)
   pub kept : IsTable t
-  pub waits : activity_at channels c ≡ AtAxes axes line
+  pub waits : activity_at channels c ≡ AtAxes from_standing axes line
   pub size : length axes ≡ AXIS_LIMIT
-  pub may : may_take_all t.owners c axes ≡ true
   pub owned : (x : ℕ) → has own x ≡ is_owned_by (axis_state t.owners x) c
   pub others : (x : ℕ) → has taken x ≡ (has axes x && not (has own x))
   pub taken_size : length taken ≡ AXIS_LIMIT
-  pub states : (x : ℕ) → axis_state owners x ≡ (if is_free_among t.owners axes x then Some (Owned c) else axis_state t.owners x)
-  pub positions : (x : ℕ) → position_of at x ≡ (if has axes x then position_if_free (axis_state t.owners x) else None)
+  pub told : (x : ℕ) → position_of resting x ≡ (if has taken x then Some (resting_in t x) else None)
+  pub states : (x : ℕ) → axis_state owners x ≡ (if has axes x then Some (Owned c) else axis_state t.owners x)
+  pub positions : (x : ℕ) → position_of at x ≡ (if has axes x then position_when_taken (axis_state t.owners x) c (position_of resting x) else None)
   pub at_size : length at ≡ AXIS_LIMIT
 
 kept_twice : (p : ℕ → Bool) (b : Bool) (x : ℕ) (ys : List ℕ) → filter p (cond b (x ∷ ys) ys) ≡ cond (b && p x) (x ∷ filter p ys) (filter p ys)
@@ -53,22 +54,38 @@ filter_members s t p sizes is =
     ∙ ap (λ (q : ℕ → Bool). filter q (range_with_len 0 (length s))) (fun_ext (λ x. sym (is x)))
     ∙ ap (λ (n : ℕ). filter (has t) (range_with_len 0 n)) (sym sizes)
 
-taken_where : (member : Bool) (s : Option AxisState) (c : ℕ) → (member ≡ true → may_take s c ≡ true) → (member && may_be_taken s) ≡ (member && not (is_owned_by s c))
-taken_where false s c may = refl
-taken_where true (Some (Owned owner)) c may = sym (ap not (may refl))
-taken_where true (Some (Free position)) c may = refl
-taken_where true None c may = no_truth false (may refl) refl
+-- of another's axis it is told where it stands
+pub known_where : (s : Option AxisState) (c : ℕ) (place : Option ℤ) (resting : ℤ) → place ≡ (if not (is_owned_by s c) then Some resting else None) → is_known s c place ≡ true
+known_where (Some (Owned owner)) c place resting told = each (owner == c) told
+  where
+    each : (own : Bool) → place ≡ (if not own then Some resting else None) → (own || is_some place) ≡ true
+    each true told = refl
+    each false told = ap is_some told
+known_where (Some (Free position)) c place resting told = refl
+known_where None c place resting told = ap is_some told
 
-position_where : (member : Bool) (s : Option AxisState) (c : ℕ) → (member ≡ true → may_take s c ≡ true)
-    → (if member then position_if_free s else None) ≡ (if member && not (is_owned_by s c) then Some (free_position (ownership_in s)) else None)
-position_where false s c may = refl
-position_where true (Some (Owned owner)) c may = sym (ap (λ (b : Bool). if not b then Some (pos 0) else None) (may refl))
-position_where true (Some (Free position)) c may = refl
-position_where true None c may = no_truth false (may refl) refl
+owner_where : (member : Bool) (s : Option AxisState) (c : ℕ)
+    → ownership_in (if member then Some (Owned c) else s) ≡ (if member && not (is_owned_by s c) then OwnedBy c else ownership_in s)
+owner_where false s c = refl
+owner_where true (Some (Owned owner)) c = each (owner == c) refl
+  where
+    each : (own : Bool) → (owner == c) ≡ own → OwnedBy c ≡ (if not own then OwnedBy c else OwnedBy owner)
+    each true same = ap OwnedBy (sym (eqb-true owner c same))
+    each false same = refl
+owner_where true (Some (Free position)) c = refl
+owner_where true None c = refl
 
-may_each : (t : Table) (channels : List Activity) (c : ℕ) (axes own taken : List Bool) (line : ℕ) (owners : List (Option AxisState)) (at : List (Option ℤ)) → Takes t channels c axes own taken line owners at
-    → (x : ℕ) → has axes x ≡ true → may_take (axis_state t.owners x) c ≡ true
-may_each t channels c axes own taken line owners at k x member = list_all-at_member axes (λ y. may_take (axis_state t.owners y) c) x k.may member
+position_where : (member : Bool) (s : Option AxisState) (c : ℕ) (b : Board) (x : ℕ) (place : Option ℤ)
+    → place ≡ (if member && not (is_owned_by s c) then Some (resting_position b x (ownership_in s)) else None)
+    → (if member then position_when_taken s c place else None) ≡ (if member && not (is_owned_by s c) then Some (resting_position b x (ownership_in s)) else None)
+position_where false s c b x place told = refl
+position_where true (Some (Owned owner)) c b x place told = each (owner == c) told
+  where
+    each : (own : Bool) → place ≡ (if not own then Some (b.last_position owner x) else None) → (if own then None else place) ≡ (if not own then Some (b.last_position owner x) else None)
+    each true told = refl
+    each false told = told
+position_where true (Some (Free position)) c b x place told = refl
+position_where true None c b x place told = told
 
 has_taken : (t : Table) (channels : List Activity) (c : ℕ) (axes own taken : List Bool) (line : ℕ) (owners : List (Option AxisState)) (at : List (Option ℤ)) → Takes t channels c axes own taken line owners at
     → (x : ℕ) → has taken x ≡ (has axes x && not (is_owned_by (axis_state t.owners x) c))
@@ -94,16 +111,12 @@ with_axes : (t : Table) (channels : List Activity) (c : ℕ) (axes own taken : L
 unfolding ownership_after_taking holder_after_taking
 with_axes t channels c axes own taken line owners at zones k handed =
     same_boards (board_in (record t { owners = owners; zones = record { items = zones } }) channels) (with_its_axes (board_in t channels) c)
-    refl (λ d m. refl) (λ d. refl) (λ d. refl)
-    (λ x. ap ownership_in (k.states x) ∙ chosen (is_free_among t.owners axes x) (axis_state t.owners x) ∙ ap (λ (b : Bool). if b then OwnedBy c else ownership_in (axis_state t.owners x))
-    (taken_where (has axes x) (axis_state t.owners x) c (may_each t channels c axes own taken line owners at k x) ∙ sym (has_taken t channels c axes own taken line owners at k x) ∙ among_taken t channels c axes own taken line owners at k x))
+    refl (λ d m. refl) (λ d. refl) (λ d. refl) (λ d x. refl)
+    (λ x. ap ownership_in (k.states x) ∙ owner_where (has axes x) (axis_state t.owners x) c ∙ ap (λ (b : Bool). if b then OwnedBy c else ownership_in (axis_state t.owners x))
+    (sym (has_taken t channels c axes own taken line owners at k x) ∙ among_taken t channels c axes own taken line owners at k x))
     (λ z. ap (λ (zs : List ZoneState). holder_in zs z) handed ∙ holder_handed taken (Some c) t.zones.items z
     ∙ ap₂ (λ (carrying : List Bool) (xs : List ℕ). if list_any (has carrying) xs then Some c else holder_in t.zones.items z) (k.kept.zone_axes z) (sym (to_take t channels c axes own taken line owners at k)))
     (λ z. ap (λ (zs : List ZoneState). is_on_in zs z) handed ∙ on_handed taken (Some c) t.zones.items z)
-  where
-    chosen : (b : Bool) (s : Option AxisState) → ownership_in (if b then Some (Owned c) else s) ≡ (if b then OwnedBy c else ownership_in s)
-    chosen true s = refl
-    chosen false s = refl
 
 -- its grant
 pub taker_granted : (t : Table) (channels : List Activity) (c : ℕ) (axes own taken : List Bool) (line : ℕ) (owners : List (Option AxisState)) (at : List (Option ℤ)) (zones : List ZoneState) (grant : Grant)
@@ -113,9 +126,10 @@ pub taker_granted : (t : Table) (channels : List Activity) (c : ℕ) (axes own t
 unfolding grant_of_taker
 taker_granted t channels c axes own taken line owners at zones grant k handed is =
     is ∙ ap₂ (λ (b : Board) (p : List (Option ℤ)). grant_with b c p) (with_axes t channels c axes own taken line owners at zones k handed)
-    (positions_listed at (among (axes_to_take (board_in t channels) c)) (λ x. free_position (ownership_in (axis_state t.owners x)))
-    (λ x. k.positions x ∙ position_where (has axes x) (axis_state t.owners x) c (may_each t channels c axes own taken line owners at k x)
-    ∙ ap (λ (b : Bool). if b then Some (free_position (ownership_in (axis_state t.owners x))) else None)
+    (positions_listed at (among (axes_to_take (board_in t channels) c)) (resting_in t)
+    (λ x. k.positions x ∙ position_where (has axes x) (axis_state t.owners x) c (board_in t []) x (position_of k.resting x)
+    (k.told x ∙ ap (λ (b : Bool). if b then Some (resting_in t x) else None) (has_taken t channels c axes own taken line owners at k x))
+    ∙ ap (λ (b : Bool). if b then Some (resting_in t x) else None)
     (sym (has_taken t channels c axes own taken line owners at k x) ∙ among_taken t channels c axes own taken line owners at k x)) k.at_size)
 
 -- and the board after it
@@ -141,13 +155,21 @@ pub taken_kept : (t : Table) (channels : List Activity) (c : ℕ) (axes own take
     → Takes t channels c axes own taken line owners at → zones ≡ map (zone_handed taken (Some c)) t.zones.items
     → IsTable (record t { owners = owners; zones = record { items = zones } })
 taken_kept t channels c axes own taken line owners at zones k handed = record {
-  owners = λ x below. ap is_some (k.states x) ∙ chosen (is_free_among t.owners axes x) (axis_state t.owners x) (k.kept.owners x below);
+  owners = λ x below. ap is_some (k.states x) ∙ chosen (has axes x) (axis_state t.owners x) (k.kept.owners x below);
+  owner_numbers = λ x d is. numbered (has axes x) x d (sym (k.states x) ∙ is);
   zones_once = ap (λ (zs : List ZoneState). stand (map (λ (zone : ZoneState). zone.zone) zs)) handed ∙ ap stand (numbers_handed taken (Some c) t.zones.items) ∙ k.kept.zones_once;
   zone_axes = λ z. ap (λ (zs : List ZoneState). axes_in zs z) handed ∙ axes_handed taken (Some c) t.zones.items z ∙ k.kept.zone_axes z;
 }
   where
     stand : List ℕ → Bool
     stand numbers = stand_once numbers
+
+    same_owner : (d : ℕ) → Some (Owned c) ≡ Some (Owned d) → c ≡ d
+    same_owner d is = cc
+
+    numbered : (b : Bool) (x d : ℕ) → (if b then Some (Owned c) else axis_state t.owners x) ≡ Some (Owned d) → (1 ≤ d) × (d < CHANNEL_PLACES)
+    numbered true x d is = subst (λ (n : ℕ). (1 ≤ n) × (n < CHANNEL_PLACES)) (same_owner d is) k.number
+    numbered false x d is = k.kept.owner_numbers x d is
 
     chosen : (b : Bool) (s : Option AxisState) → is_some s ≡ true → is_some (if b then Some (Owned c) else s) ≡ true
     chosen true s some = refl

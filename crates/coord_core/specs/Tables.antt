@@ -1,5 +1,5 @@
 -- Steps. What a board keeps beside its entries, and for which board that stands.
-use Rattle.std.specs.Prelude.{◌≡◌, ℕ, pos, ◌<◌, ◌≤◌, ◌==◌, Bool, true, false, List, [], find, map, length, slice_index_or, Option, Some, None, is_some, if◌then◌else◌}
+use Rattle.std.specs.Prelude.{◌≡◌, ℕ, ℤ, pos, ◌<◌, ◌≤◌, ◌==◌, Bool, true, false, List, [], find, map, length, slice_index_or, Option, Some, None, is_some, if◌then◌else◌}
 use Rattle.std.specs.List.{list_any}
 use Rattle.std.specs.Option.{option_map_or}
 use Rattle.axis_exchange.specs.Owners.{axis_state}
@@ -12,9 +12,12 @@ use Rattle.coord_core.specs.declared.activities.Activity.TheVariants.{Idle, Runn
 use Rattle.coord_core.specs.declared.table.Table.{Table}
 use Rattle.coord_core.specs.declared.zones.ZoneState.{ZoneState}
 use Rattle.mark_board.specs.Marks.{has_mark}
-use Rattle.sync_types.specs.BoardActions.{others_than}
+use Rattle.axis_sets.specs.Positions.{position_of}
+use Rattle.sync_types.specs.BoardActions.{others_than, position_or_zero}
+use Rattle.sync_types.specs.GoingOn.{resting_position}
 use Rattle.sync_types.specs.Boards.{State, IsIdle, IsRunning, IsHolding, HasEnded, HasAlarmed, AtMarks, AtEnds as awaits_ends, AtAxes as awaits_axes, Ownership, OwnedBy, FreeAt, Board, is_this}
-use Rattle.sync_types.specs.Starts.{axes_of_zone, stand_once}
+use Rattle.sync_types.specs.Starts.{axes_of_zone, first_position, stand_once}
+use Rattle.sync_types.specs.Views.{StartView}
 
 -- what a channel does, by what is kept of it
 abbrev pub state_in : ℕ → Activity → State
@@ -22,7 +25,7 @@ state_in c Idle = IsIdle
 state_in c (Running grant) = IsRunning grant
 state_in c (AtMark m named line) = IsHolding (AtMarks m (others_than c (members_of named))) line
 state_in c (AtEnds named line) = IsHolding (awaits_ends (members_of named)) line
-state_in c (AtAxes axes line) = IsHolding (awaits_axes (members_of axes)) line
+state_in c (AtAxes from_standing axes line) = IsHolding (awaits_axes from_standing (members_of axes)) line
 state_in c (Ended line) = HasEnded line
 state_in c (Alarmed alarm) = HasAlarmed alarm.code alarm.line
 
@@ -47,6 +50,12 @@ is_on_in zones z = option_map_or (λ zone. zone.on) (zone_in zones z) false
 abbrev pub axes_in : List ZoneState → ℕ → List Bool
 axes_in zones z = option_map_or (λ zone. zone.axes) (zone_in zones z) []
 
+-- where an axis of a channel stood after the channel's last step, by what is kept of that step; before the first step it
+-- stands where it stood at the start
+abbrev pub last_position_in : StartView → Option (List (Option ℤ)) → ℕ → ℤ
+last_position_in start None x = first_position start x
+last_position_in start (Some at) x = position_or_zero (position_of at x)
+
 -- the board for which this stands
 abbrev pub board_in : Table → List Activity → Board
 board_in table channels = record {
@@ -54,14 +63,20 @@ board_in table channels = record {
   marks = has_mark table.marks;
   state = λ c. state_in c (activity_at channels c);
   program = λ c. slice_index_or table.programs c None;
+  last_position = λ c. last_position_in table.start (slice_index_or table.last_positions c None);
   axis = λ x. ownership_in (axis_state table.owners x);
   holder = holder_in table.zones.items;
   is_on = is_on_in table.zones.items;
 }
 
--- each axis is kept, each zone once, and with the axes that carry it
+-- where an axis stands that is free or whose owner stands
+abbrev pub resting_in : Table → ℕ → ℤ
+resting_in table x = resting_position (board_in table []) x (ownership_in (axis_state table.owners x))
+
+-- each axis is kept, its owner by a number that a channel may have, each zone once, and with the axes that carry it
 pub record IsTable (table : Table) : Type 0 where
   pub owners : (x : ℕ) → x < AXIS_LIMIT → is_some (axis_state table.owners x) ≡ true
+  pub owner_numbers : (x c : ℕ) → axis_state table.owners x ≡ Some (Owned c) → (1 ≤ c) × (c < CHANNEL_PLACES)
   pub zones_once : stand_once (map (λ zone. zone.zone) table.zones.items) ≡ true
   pub zone_axes : (z : ℕ) → axes_in table.zones.items z ≡ axes_of_zone table.start z
 

@@ -1,6 +1,6 @@
 //! What is kept of each channel.
 ghost use Rattle.std.specs.Prelude.{◌≡◌, ℕ, ◌==◌, if◌then◌else◌};
-ghost use Rattle.sync_types.specs.Boards.{is_idle, is_running, has_ended, grant_in};
+ghost use Rattle.sync_types.specs.Boards.{is_idle, is_running, has_ended, stands, grant_in};
 ghost use Rattle.coord_core.specs.Boards.{channel_state};
 ghost use Rattle.coord_core.specs.Tables.{activity_at, state_in};
 ghost use Rattle.coord_core.specs.declared.activities.Activity.TheVariants.{Running};
@@ -21,8 +21,8 @@ pub(crate) enum Activity {
     AtMark(u8, ChannelSet, u32),
     /// It waits for the ends of these channels.
     AtEnds(ChannelSet, u32),
-    /// It waits for these axes.
-    AtAxes(AxisSet, u32),
+    /// It waits for these axes, where this is true also for those of channels that stand.
+    AtAxes(bool, AxisSet, u32),
     /// Its program has ended.
     Ended(u32),
     /// An alarm has stopped it.
@@ -83,6 +83,20 @@ pub(crate) fn has_ended(channel: ChannelId, activity: &Activity) -> bool
     }
 }
 
+// Whether a channel stands.
+pub(crate) fn stands(channel: ChannelId, activity: &Activity) -> bool
+    ensures { result ≡ stands (state_in channel activity.now) }
+{
+    match activity {
+        Activity::Running(_) | Activity::Alarmed(_) => false,
+        Activity::Idle => true,
+        Activity::AtMark(_, _, _) => true,
+        Activity::AtEnds(_, _) => true,
+        Activity::AtAxes(_, _, _) => true,
+        Activity::Ended(_) => true,
+    }
+}
+
 // With what a channel goes on.
 pub(crate) fn grant_in(channel: ChannelId, activity: &Activity) -> Option<Grant>
     ensures { result ≡ grant_in (state_in channel activity.now) }
@@ -100,7 +114,7 @@ pub(crate) fn channel_state(channel: ChannelId, activity: &Activity) -> ChannelS
     match activity {
         Activity::Idle => ChannelState::Idle,
         Activity::Running(_) => ChannelState::Running,
-        Activity::AtMark(_, _, line) | Activity::AtEnds(_, line) | Activity::AtAxes(_, line) =>
+        Activity::AtMark(_, _, line) | Activity::AtEnds(_, line) | Activity::AtAxes(_, _, line) =>
             ChannelState::Holding(*line),
         Activity::Ended(line) => ChannelState::Ended(*line),
         Activity::Alarmed(alarm) => ChannelState::Alarmed(*alarm),

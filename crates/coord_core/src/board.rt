@@ -95,13 +95,12 @@ impl Board {
         ensures step { self.new ≡ with_step_reserved self.old channel step }
         ensures together { AreTogether (replayed self.new) }
     {
-        let mut goes = ArrayVec::new();
-        self.state.step_on(channel, &step, &mut goes);
-        let entry = Entry {
+        let mut entry = Entry {
             channel,
             step,
-            goes,
+            goes: ArrayVec::new(),
         };
+        self.state.step_on(channel, &entry.step, &mut entry.goes);
         let Ok(()) = self.entries.push(entry) else {
             unreachable!()
         };

@@ -1,5 +1,5 @@
 //! What an action changes on the board, before anybody goes on.
-ghost use Rattle.std.specs.Prelude.{◌≡◌, ℕ, ℤ, ◌==◌, false, None, Some, if◌then◌else◌, length, slice_index_or};
+ghost use Rattle.std.specs.Prelude.{◌≡◌, ℕ, ◌==◌, false, None, Some, if◌then◌else◌, length, slice_index_or};
 ghost use Rattle.axis_sets.specs.Positions.{position_of};
 ghost use Rattle.axis_sets.specs.Sets.{has};
 ghost use Rattle.mark_board.specs.Marks.{has_mark};
@@ -8,10 +8,10 @@ ghost use Rattle.sync_types.specs.BoardAlarms.{alarm_of, names_no_mark};
 ghost use Rattle.coord_core.specs.Tables.{board_in, IsTable};
 
 use crate::state::State;
+use crate::table::{note_positions, position_or_zero};
 use crate::zones::{hand_over, note_on};
 use axis_sets::{AXIS_LIMIT, AxisId, AxisSet, CHANNEL_PLACES, ChannelId, MarkSet, Positions};
 use mark_board::Marks;
-use micro_units::Um;
 use sync_types::{Action, Step};
 
 // The own marks after an action.
@@ -44,16 +44,6 @@ fn select_program(programs: &mut [Option<u16>; CHANNEL_PLACES], action: &Action)
     }
 }
 
-// The position of an axis that a step may leave out.
-fn position_or_zero(position: Option<Um>) -> Um
-    ensures { result ≡ position_or_zero position }
-{
-    match position {
-        Some(position) => position,
-        None => Um { micrometres: 0 },
-    }
-}
-
 // A position for each of these axes; one that is not told is 0.
 fn full_positions(axes: AxisSet, at: &Positions) -> Positions
     ensures { (x : ℕ) → position_of result x ≡ (if has axes x
@@ -82,6 +72,7 @@ impl State {
         change_marks(&mut self.table.marks, channel, &step.action);
         select_program(&mut self.table.programs, &step.action);
         note_on(&mut self.table.zones, channel, &step.on);
+        note_positions(&mut self.table.last_positions, channel, &step.at);
         if let Action::Release(axes) = step.action {
             let at = full_positions(axes, &step.at);
             self.table.owners.release(channel, axes, &at);

@@ -1,15 +1,17 @@
 //! Who goes on after the action of a step: three rules, one after another.
 ghost use Rattle.std.specs.Prelude.{◌≡◌, ℕ, ◌+◌, ◌≤◌, ◌<◌, ◌==◌, ◌&&◌, ◌++◌, [], ◌∷◌, false, true, not, map, if◌then◌else◌, length, Some};
 ghost use Rattle.axis_sets.specs.Sets.{has};
-ghost use Rattle.axis_exchange.specs.Owners.{may_take_all};
+ghost use Rattle.axis_exchange.specs.Owners.{may_take_all_from};
 ghost use Rattle.mark_board.specs.Marks.{has_mark};
-ghost use Rattle.sync_types.specs.Boards.{among, has_ended, no_positions, grant_with};
+ghost use Rattle.sync_types.specs.Boards.{among, has_ended, no_positions, grant_with, stands};
 ghost use Rattle.sync_types.specs.GoingOn.{go_of, goes_at_once, goers_at_once, going_at_once, lowers, after_goes, can_take, next_taker, going_of_taker, after_taking, all_takings};
 ghost use Rattle.coord_core.specs.Tables.{activity_at, board_in, state_in, HasPassing, IsTable};
 ghost use Rattle.coord_core.specs.declared.activities.Activity.TheVariants.{Running};
 
-use crate::activities::{Activities, Activity, activity_of, has_ended, running, set_activity};
-use crate::sets::{all_axes, is_within};
+use crate::activities::{
+    Activities, Activity, activity_of, has_ended, running, set_activity, stands,
+};
+use crate::sets::{all_axes, is_within, place_of};
 use crate::state::{Goes, State};
 use crate::table::Table;
 use crate::zones::hand_over;
@@ -125,12 +127,28 @@ fn run_on(table: &Table, channels: &mut Activities, goers: ChannelSet, goes: &mu
     }
 }
 
-// Whether the channel may take all these axes.
-fn wants(owners: &Owners, channel: ChannelId, axes: AxisSet) -> bool
-    ensures may { result ≡ may_take_all owners.now channel axes }
+// The channels from which axes may be taken: those that stand, where that is asked for, else none.
+fn channels_standing(channels: &Activities, from_standing: bool) -> ChannelSet
+    ensures { HasPassing result (λ c. from_standing && stands (state_in c (activity_at channels.now c))) }
+{
+    let mut standing = ChannelSet::empty();
+    for number in 1..CHANNEL_PLACES {
+        let channel = ChannelId {
+            number: number as u8,
+        };
+        if from_standing && stands(channel, activity_of(channels, channel)) {
+            standing = standing.with(channel);
+        }
+    }
+    standing
+}
+
+// Whether the channel may take all these axes, also from these channels.
+fn wants(owners: &Owners, channel: ChannelId, axes: AxisSet, standing: ChannelSet) -> bool
+    ensures may { result ≡ may_take_all_from owners.now channel axes standing }
     ensures size { length axes ≡ AXIS_LIMIT }
 {
-    owners.want(channel, axes)
+    owners.want_from(channel, axes, standing)
 }
 
 impl State {
@@ -154,13 +172,16 @@ impl State {
         self.table.marks = marks;
     }
 
-    // Whether the channel waits for axes that are all free or its own.
+    // Whether the channel waits for axes that it can take, all of them.
     fn can_take(&self, channel: ChannelId) -> bool
         requires kept { IsTable self.now.table }
         ensures { result ≡ can_take (board_in self.now.table self.now.channels) channel }
     {
         match activity_of(&self.channels, channel) {
-            Activity::AtAxes(axes, _) => wants(&self.table.owners, channel, *axes),
+            Activity::AtAxes(from_standing, axes, _) => {
+                let standing = channels_standing(&self.channels, *from_standing);
+                wants(&self.table.owners, channel, *axes, standing)
+            }
             _ => false,
         }
     }
@@ -192,12 +213,15 @@ impl State {
         ensures goes { goes.new.items ≡ goes.old.items
             ++ go_of (going_of_taker (board_in self.old.table self.old.channels) channel) ∷ [] }
     {
-        let Activity::AtAxes(axes, _) = *activity_of(&self.channels, channel) else {
+        let Activity::AtAxes(_, axes, _) = *activity_of(&self.channels, channel) else {
             unreachable!()
         };
         let axes = all_axes(axes);
         let taken = axes.minus(self.table.owners.owned_by(channel));
-        let at = self.table.owners.take(channel, axes);
+        let resting = self.table.resting_positions(taken);
+        let at = self.table.owners.take_from(channel, axes, &resting);
+        // For the prover: no channel has a number of 0, or one from CHANNEL_PLACES on.
+        let _place = place_of(channel);
         hand_over(&mut self.table.zones, taken, &Some(channel));
         let grant = self.table.grant_with(channel, at);
         set_activity(&mut self.channels, channel, running(&grant));

@@ -1,9 +1,9 @@
 //! Sets of channels and of axes.
-ghost use Rattle.std.specs.Prelude.{◌≡◌, false, not, length};
+ghost use Rattle.std.specs.Prelude.{◌≡◌, ◌≤◌, ◌<◌, false, not, length};
 ghost use Rattle.std.specs.List.{list_all};
 ghost use Rattle.axis_sets.specs.Sets.{has, members_of};
 
-use axis_sets::{AXIS_LIMIT, AxisSet, CHANNEL_PLACES, ChannelSet};
+use axis_sets::{AXIS_LIMIT, AxisSet, CHANNEL_PLACES, ChannelId, ChannelSet};
 
 // The same channels. No set has 0, and all are of one size.
 pub(crate) fn known(named: ChannelSet) -> ChannelSet
@@ -12,6 +12,15 @@ pub(crate) fn known(named: ChannelSet) -> ChannelSet
     ensures size { length named ≡ CHANNEL_PLACES }
 {
     named
+}
+
+// The place of a channel among all; none has the place 0.
+pub(crate) fn place_of(channel: ChannelId) -> usize
+    ensures number { result ≡ channel }
+    ensures some { 1 ≤ result }
+    ensures within { result < CHANNEL_PLACES }
+{
+    usize::from(channel.number)
 }
 
 // The same axes. All sets of axes are of one size.

@@ -2,7 +2,9 @@
 ghost use Rattle.std.specs.Prelude.{◌≡◌, ℕ, ◌<◌, ◌≤◌, ◌==◌, List, map, find, length, pos, false, true, is_some, None, slice_index_or};
 ghost use Rattle.std.specs.Option.{option_map_or};
 ghost use Rattle.axis_exchange.specs.Owners.{axis_state};
-ghost use Rattle.axis_sets.specs.declared.limits.TheConstants.{AXIS_LIMIT};
+ghost use Rattle.std.specs.List.{list_any};
+ghost use Rattle.axis_sets.specs.Sets.{has};
+ghost use Rattle.axis_sets.specs.declared.limits.TheConstants.{AXIS_LIMIT, CHANNEL_PLACES};
 ghost use Rattle.sync_types.specs.Boards.{board_at_rest, first_board, ownership_of};
 ghost use Rattle.sync_types.specs.Starts.{first_owner, first_position, first_program, IsSound};
 ghost use Rattle.coord_core.specs.Tables.{board_in, state_in, activity_at, ownership_in, zone_at_start, IsTable};
@@ -11,11 +13,11 @@ ghost use Rattle.coord_core.specs.declared.activities.Activity.{Activity};
 use crate::activities::{Activities, Activity, running, set_activity};
 use crate::alarms::{ChannelLine, ZoneLine, axes_of, channels_of};
 use crate::state::State;
-use crate::table::{AxisLine, Table, first_position};
+use crate::table::{AxisLine, LastPositions, Table, first_position};
 use crate::zones::{ZoneState, Zones};
 use arrayvec::ArrayVec;
 use axis_exchange::Owners;
-use axis_sets::{AXIS_LIMIT, AxisId, CHANNEL_PLACES, ChannelId, ZONE_LIMIT};
+use axis_sets::{AXIS_LIMIT, AxisId, CHANNEL_PLACES, ChannelId, ChannelSet, ZONE_LIMIT};
 use mark_board::Marks;
 use micro_units::Um;
 use sync_types::StartState;
@@ -139,6 +141,22 @@ fn first_activities(table: &Table, lines: &[ChannelLine]) -> Activities
     channels
 }
 
+// The channels of the machine.
+fn channels_at_first(start: &StartState) -> ChannelSet
+    ensures members { (c : ℕ) → has result c ≡ list_any (λ line. line.0 == c) start.now.channels }
+    ensures none { has result 0 ≡ false }
+    ensures size { length result ≡ CHANNEL_PLACES }
+{
+    channels_of(start.channels.as_slice())
+}
+
+// No channel has made a step.
+fn no_positions() -> LastPositions
+    ensures { (c : ℕ) → slice_index_or result c None ≡ None }
+{
+    [None; CHANNEL_PLACES]
+}
+
 // The same start state.
 fn copy_of(start: &StartState) -> StartState
     ensures { result ≡ start.now }
@@ -182,11 +200,14 @@ impl Table {
         ensures board { (channels : List Activity) → board_in result channels
             ≡ record (board_at_rest start.now) { state = λ c. state_in c (activity_at channels c) } }
     {
+        // For the prover: no channel has a number of 0, or one from CHANNEL_PLACES on.
+        let _known = channels_at_first(start);
         Table {
             start: copy_of(start),
             marks: Marks::new(),
             owners: owners_at_first(start),
             programs: programs_at_first(start),
+            last_positions: no_positions(),
             zones: zones_at_first(start),
         }
     }

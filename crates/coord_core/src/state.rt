@@ -13,7 +13,7 @@ ghost use Rattle.coord_core.specs.declared.activities.Activity.TheVariants.{Runn
 
 use crate::activities::{Activities, Activity, activity_of, is_running, running, set_activity};
 use crate::sets::known;
-use crate::table::Table;
+use crate::table::{Table, note_positions};
 use crate::zones::note_on;
 use arrayvec::ArrayVec;
 use axis_sets::{CHANNEL_LIMIT, CHANNEL_PLACES, ChannelId, ChannelSet, Positions};
@@ -77,7 +77,7 @@ impl State {
         match step.action {
             Action::WaitM(mark, named) => Activity::AtMark(mark, named, step.line),
             Action::WaitE(named) => Activity::AtEnds(named, step.line),
-            Action::Get(axes) => Activity::AtAxes(axes, step.line),
+            Action::Get(axes) => Activity::AtAxes(false, axes, step.line),
             Action::End => Activity::Ended(step.line),
             _ => Activity::Running(self.table.grant_with(channel, Positions::empty())),
         }
@@ -120,6 +120,7 @@ impl State {
             Some(code) => {
                 let _named = channels_to_start(&step.action);
                 note_on(&mut self.table.zones, channel, &step.on);
+                note_positions(&mut self.table.last_positions, channel, &step.at);
                 let alarm = Alarm {
                     code,
                     line: step.line,

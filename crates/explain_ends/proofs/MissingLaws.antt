@@ -1,23 +1,22 @@
 -- Who still waits lacks something.
 use Rattle.std.proofs.Common.{◌≡◌, ◌∙◌, ℕ, zero, suc, ◌+◌, ◌<◌, ◌≤◌, ◌==◌, ◌&&◌, ◌||◌, not, Bool, true, false, inl, inr, List, [], ◌∷◌, Option, None, Some, filter, refl, sym, ap, subst, eq-eqb, eqb-true, arith}
 use Rattle.std.specs.List.{list_all, range_with_len}
-use Rattle.std.proofs.lemmas.Bool.{cases_Bool, and_parts, false_from_ne_true}
+use Rattle.std.proofs.lemmas.Bool.{cases_Bool, or_left, false_from_ne_true}
 use Rattle.axis_sets.specs.Sets.{members_of}
-use Rattle.axis_sets.specs.declared.limits.TheConstants.{CHANNEL_LIMIT, CHANNEL_PLACES}
-use Rattle.explain_ends.specs.Missing.{Lacks, LacksMark, LacksEnd, LacksAxis, WhoWaitsLacks}
-use Rattle.sync_types.proofs.BoardTests.{among_kept, by_test, no_truth, not_so}
+use Rattle.axis_sets.specs.declared.limits.TheConstants.{CHANNEL_LIMIT}
+use Rattle.explain_ends.specs.Missing.{Lacks, WhoWaitsLacks}
+use Rattle.sync_types.proofs.BoardTests.{among_kept, by_test, no_truth}
 use Rattle.sync_types.proofs.Settling.{settled}
-use Rattle.sync_types.specs.BoardActions.{after_action, after_effects, after_own_part, after_part, channels_to_start, state_after_action, state_after_alarm, state_of_actor, others_than}
+use Rattle.sync_types.specs.BoardActions.{after_effects, after_own_part, after_part, channels_to_start, state_after_action, state_after_alarm, state_of_actor, others_than}
 use Rattle.sync_types.specs.BoardAlarms.{alarm_of}
-use Rattle.sync_types.specs.Boards.{Hold, AtMarks, AtEnds, AtAxes, State, IsHolding, IsIdle, IsRunning, Ownership, OwnedBy, FreeAt, Board, among, channel_numbers, first_board, first_state, has_ended, is_free, is_this, owner_of, owns, start_grant}
-use Rattle.sync_types.specs.GoingOn.{after_goes, after_taking, can_take, first_of, goers_at_once, goes_at_once, next_taker, state_after_goes, state_after_taking, takings, takings_from}
+use Rattle.sync_types.specs.Boards.{Hold, AtMarks, AtEnds, AtAxes, State, IsHolding, IsRunning, Ownership, OwnedBy, FreeAt, Board, among, channel_numbers, first_board, first_state, has_ended, owner_of, stands, start_grant}
+use Rattle.sync_types.specs.GoingOn.{after_goes, after_taking, axes_asked, can_take, first_of, goers_at_once, goes_at_once, may_be_taken, next_taker, state_after_goes, state_after_taking, takes_from_standing, takings, takings_from, waits_for_axes}
 use Rattle.sync_types.specs.RunLaws.{NobodyCanGo}
-use Rattle.sync_types.specs.Runs.{ComesFrom}
 use Rattle.sync_types.specs.Starts.{runs_at_first}
 use Rattle.sync_types.specs.Turns.{after_entries, after_step}
 use Rattle.sync_types.specs.Views.{EntryView, RunView, StartView}
 use Rattle.sync_types.specs.declared.Action.{Action}
-use Rattle.sync_types.specs.declared.Action.TheVariants.{WaitM, WaitE, Get, End}
+use Rattle.sync_types.specs.declared.Action.TheVariants.{WaitM}
 use Rattle.sync_types.specs.declared.Step.{Step}
 
 -- ---- tests on lists
@@ -139,10 +138,11 @@ all_settled (e ∷ es) b old = all_settled es (after_step b e.channel e.step) (s
 
 -- ---- what is missing
 
--- an axis that is neither free nor the channel's own is another's
-is_another's : (o : Ownership) (c : ℕ) → (is_free o || is_this (owner_of o) c) ≡ false → (d : ℕ) × ((o ≡ OwnedBy d) × ((d == c) ≡ false))
-is_another's (OwnedBy d) c off = (d, (refl, off))
-is_another's (FreeAt p) c off = no_truth true refl off
+-- an axis that the channel cannot have is another's
+is_another's : (b : Board) (c : ℕ) (from_standing : Bool) (o : Ownership) → may_be_taken b c from_standing (owner_of o) ≡ false → (d : ℕ) × ((o ≡ OwnedBy d) × ((d == c) ≡ false))
+is_another's b c from_standing (OwnedBy d) off =
+    (d, (refl, false_from_ne_true (d == c) (λ own. no_truth ((d == c) || (from_standing && stands (b.state d))) (or_left (d == c) (from_standing && stands (b.state d)) own) off)))
+is_another's b c from_standing (FreeAt p) off = no_truth true refl off
 
 lacks_in : (b : Board) (c : ℕ) (hold : Hold) (line : ℕ) → goes_at_once b (IsHolding hold line) ≡ false → IsForOthers c (IsHolding hold line)
     → (can_take b c ≡ false) → b.state c ≡ IsHolding hold line → Lacks b c hold
@@ -157,9 +157,11 @@ lacks_in b c (AtMarks number named) line goes others takes is =
 lacks_in b c (AtEnds named) line goes others takes is =
     let w : Fails (λ d. has_ended (b.state d)) named = one_fails (λ d. has_ended (b.state d)) named goes in
     record { other = w.one; is_named = w.inside; runs_on = w.off }
-lacks_in b c (AtAxes axes) line goes others takes is =
-    let w : Fails (λ x. is_free (b.axis x) || owns b c x) axes = one_fails (λ x. is_free (b.axis x) || owns b c x) axes (rw is at takes) in
-    let o = is_another's (b.axis w.one) c w.off in
+lacks_in b c (AtAxes from_standing axes) line goes others takes is =
+    let has : Bool → ℕ → Bool = λ standing x. may_be_taken b c standing (owner_of (b.axis x)) in
+    let off : list_all (has from_standing) axes ≡ false = subst (λ (s : State). (waits_for_axes s && list_all (has (takes_from_standing s)) (axes_asked s)) ≡ false) is takes in
+    let w : Fails (λ x. may_be_taken b c from_standing (owner_of (b.axis x))) axes = one_fails (has from_standing) axes off in
+    let o = is_another's b c from_standing (b.axis w.one) w.off in
     record { axis = w.one; owner = o.0; is_asked = w.inside; is_owned = o.1.0; is_other = o.1.1 }
 
 pub who_waits_lacks : (start : StartView) (run : RunView) (c : ℕ) (hold : Hold) (line : ℕ) → WhoWaitsLacks start run c hold line

@@ -37,7 +37,7 @@ wait_lowers other m = false
 lowers_by_wait : (s : State) (m : ℕ) → lowers s m ≡ wait_lowers (wait_in s) m
 lowers_by_wait (IsHolding (AtMarks n named) line) m = refl
 lowers_by_wait (IsHolding (AtEnds named) line) m = refl
-lowers_by_wait (IsHolding (AtAxes axes) line) m = refl
+lowers_by_wait (IsHolding (AtAxes from_standing axes) line) m = refl
 lowers_by_wait other m = refl
 
 kept_lowers : (held : Option WaitAt) (m : ℕ) → lowers_at held m ≡ wait_lowers (wait_shown held) m

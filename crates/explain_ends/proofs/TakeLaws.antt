@@ -1,16 +1,16 @@
 -- Who owns an axis after a step.
 use Rattle.axis_sets.specs.declared.limits.TheConstants.{CHANNEL_LIMIT, CHANNEL_PLACES}
-use Rattle.std.proofs.Common.{◌≡◌, ◌∙◌, ◌⊎◌, ℕ, zero, suc, ◌+◌, ◌<◌, ◌≤◌, ◌==◌, ◌||◌, Bool, true, false, inl, inr, List, [], ◌∷◌, ◌++◌, map, filter, Option, None, Some, if◌then◌else◌, refl, sym, ap, subst, arith}
+use Rattle.std.proofs.Common.{◌≡◌, ◌∙◌, ◌⊎◌, ℕ, zero, suc, ◌+◌, ◌<◌, ◌≤◌, ◌==◌, ◌&&◌, ◌||◌, not, Bool, true, false, inl, inr, List, [], ◌∷◌, ◌++◌, map, filter, Option, None, Some, if◌then◌else◌, refl, sym, ap, subst, arith}
 use Rattle.std.specs.List.{range_with_len}
-use Rattle.std.proofs.lemmas.Bool.{cases_Bool, eqb-true, eq-eqb, or_cases}
+use Rattle.std.proofs.lemmas.Bool.{and_parts, cases_Bool, eqb-true, eq-eqb, or_cases}
 use Rattle.order_clocks.specs.Chains.{IsIn}
 use Rattle.order_clocks.specs.Happenings.{axes_freed}
-use Rattle.sync_types.proofs.BoardTests.{first_passes, no_truth}
-use Rattle.sync_types.proofs.TakenAxes.{taken_is_free}
+use Rattle.sync_types.proofs.BoardTests.{by_test, first_passes, no_truth}
+use Rattle.sync_types.proofs.TakenAxes.{may_take, named_and_not_own}
 use Rattle.sync_types.specs.BoardActions.{after_own_part, after_part, axes_to_free, channels_started, ownership_after}
 use Rattle.sync_types.specs.BoardAlarms.{alarm_of}
-use Rattle.sync_types.specs.Boards.{Board, OwnedBy, among, channel_numbers, is_free, owner_of}
-use Rattle.sync_types.specs.GoingOn.{Going, Takings, after_goes, after_taking, all_takings, axes_to_take, can_take, first_of, goers_at_once, going_at_once, going_of_start, going_of_taker, goings_on, next_taker, ownership_after_taking, takings, takings_from}
+use Rattle.sync_types.specs.Boards.{Board, OwnedBy, among, channel_numbers, is_this, owner_of, owns, stands}
+use Rattle.sync_types.specs.GoingOn.{Going, Takings, after_goes, after_taking, all_takings, axes_asked, axes_to_take, can_take, first_of, goers_at_once, going_at_once, going_of_start, going_of_taker, goings_on, next_taker, may_be_taken, ownership_after_taking, state_after_taking, takes_from_standing, takings, takings_from}
 use Rattle.sync_types.specs.Turns.{after_step, goings_in_step}
 use Rattle.sync_types.specs.declared.Step.{Step}
 
@@ -24,11 +24,40 @@ kept_axis : (b : Board) (c x : ℕ) → among (axes_to_take b c) x ≡ false →
 unfolding ownership_after_taking
 kept_axis b c x off = rw off refl
 
-free_later : (b : Board) (c x : ℕ) → is_free ((after_taking b c).axis x) ≡ true → (among (axes_to_take b c) x ≡ false) × (is_free (b.axis x) ≡ true)
-free_later b c x free = elim (cases_Bool (among (axes_to_take b c) x)) [
-  | inl on ↦ no_truth (is_free (OwnedBy c)) (sym (ap is_free (taken_axis b c x on)) ∙ free) refl
-  | inr off ↦ (off, sym (ap is_free (kept_axis b c x off)) ∙ free)
+-- an axis of nobody, or of a channel that stands
+abbrev can_go : Board → Option ℕ → Bool
+can_go b None = true
+can_go b (Some d) = stands (b.state d)
+
+taken_can_go : (b : Board) (c x : ℕ) → can_take b c ≡ true → among (axes_to_take b c) x ≡ true → can_go b (owner_of (b.axis x)) ≡ true
+taken_can_go b c x can takes =
+    let parts = and_parts (among (axes_asked (b.state c)) x) (not (owns b c x)) (sym (named_and_not_own b c x) ∙ takes) in
+    by_owner (takes_from_standing (b.state c)) (owner_of (b.axis x)) (may_take b c x can parts.0) parts.1
+  where
+    by_owner : (from_standing : Bool) (owner : Option ℕ) → may_be_taken b c from_standing owner ≡ true → not (is_this owner c) ≡ true → can_go b owner ≡ true
+    by_owner from_standing None may other = refl
+    by_owner from_standing (Some d) may other = elim (or_cases (d == c) (from_standing && stands (b.state d)) may) [
+      | inl own ↦ no_truth (not (d == c)) other (ap not own)
+      | inr taken ↦ (and_parts from_standing (stands (b.state d)) taken).1
+    ]
+
+-- who has taken runs on and keeps what it took
+could_go : (b : Board) (c x : ℕ) → can_go (after_taking b c) (owner_of ((after_taking b c).axis x)) ≡ true
+    → (among (axes_to_take b c) x ≡ false) × (can_go b (owner_of (b.axis x)) ≡ true)
+unfolding state_after_taking
+could_go b c x can = elim (cases_Bool (among (axes_to_take b c) x)) [
+  | inl on ↦
+      let mine : can_go (after_taking b c) (Some c) ≡ true = sym (ap (λ o. can_go (after_taking b c) (owner_of o)) (taken_axis b c x on)) ∙ can in
+      absurd (runs c (eq-eqb c c refl) mine)
+  | inr off ↦ (off, before (owner_of (b.axis x)) (sym (ap (λ o. can_go (after_taking b c) (owner_of o)) (kept_axis b c x off)) ∙ can))
 ]
+  where
+    runs : (d : ℕ) → (d == c) ≡ true → stands ((after_taking b c).state d) ≡ true → ⊥
+    runs d here on = no_truth false (rw here at on) refl
+
+    before : (o : Option ℕ) → can_go (after_taking b c) o ≡ true → can_go b o ≡ true
+    before None on = refl
+    before (Some d) on = by_test (λ s. stands s ≡ true → stands (b.state d) ≡ true) (d == c) _ _ (λ here on. no_truth false on refl) (λ other on. on) on
 
 or_left : (p q : Bool) → p ≡ true → (p || q) ≡ true
 or_left true q on = refl
@@ -47,15 +76,15 @@ first_listed p (y ∷ ys) x e = elim (cases_Bool (p y)) [
 
 -- ---- all that take, one after another
 
--- who takes an axis owns it then, and took it from nobody; what nobody takes stays as it was
+-- who takes an axis owns it then, and took it from nobody or from a channel that stood; what nobody takes stays as it was
 record AreOwners (b : Board) (t : Takings) : Type 0 where
   pub taken : (g : Going) (x : ℕ) → IsIn g t.goings → among g.took x ≡ true → owner_of (t.board.axis x) ≡ Some g.channel
   pub kept : (x : ℕ) → ((g : Going) → IsIn g t.goings → among g.took x ≡ true → ⊥) → owner_of (t.board.axis x) ≡ owner_of (b.axis x)
-  pub free : (g : Going) (x : ℕ) → IsIn g t.goings → among g.took x ≡ true → is_free (b.axis x) ≡ true
+  pub from : (g : Going) (x : ℕ) → IsIn g t.goings → among g.took x ≡ true → can_go b (owner_of (b.axis x)) ≡ true
   pub listed : (g : Going) → IsIn g t.goings → among channel_numbers g.channel ≡ true
 
 none_takes : (b : Board) → AreOwners b (record { goings = []; board = b })
-none_takes b = record { taken = λ g x inside on. absurd inside; kept = λ x none. refl; free = λ g x inside on. absurd inside; listed = λ g inside. absurd inside }
+none_takes b = record { taken = λ g x inside on. absurd inside; kept = λ x none. refl; from = λ g x inside on. absurd inside; listed = λ g inside. absurd inside }
 
 false_by : (t : Bool) → (t ≡ true → ⊥) → t ≡ false
 false_by true bad = absurd (bad refl)
@@ -66,16 +95,16 @@ one_takes b c t is rest = record {
   taken = λ g x inside on. elim inside [
     | inl here ↦
         let mine : among (axes_to_take b c) x ≡ true = subst (λ (h : Going). among h.took x ≡ true) here on in
-        rest.kept x (λ h there took. no_truth (among (axes_to_take b c) x) mine (free_later b c x (rest.free h x there took)).0)
+        rest.kept x (λ h there took. no_truth (among (axes_to_take b c) x) mine (could_go b c x (rest.from h x there took)).0)
         ∙ (ap owner_of (taken_axis b c x mine) ∙ ap (λ (h : Going). Some h.channel) (sym here))
     | inr there ↦ rest.taken g x there on
   ];
   kept = λ x none.
       rest.kept x (λ h there took. none h (inr there) took)
       ∙ ap owner_of (kept_axis b c x (false_by (among (axes_to_take b c) x) (λ on. none (going_of_taker b c) (inl refl) on)));
-  free = λ g x inside on. elim inside [
-    | inl here ↦ taken_is_free b c x (first_passes (can_take b) channel_numbers c is) (subst (λ (h : Going). among h.took x ≡ true) here on)
-    | inr there ↦ (free_later b c x (rest.free g x there on)).1
+  from = λ g x inside on. elim inside [
+    | inl here ↦ taken_can_go b c x (first_passes (can_take b) channel_numbers c is) (subst (λ (h : Going). among h.took x ≡ true) here on)
+    | inr there ↦ (could_go b c x (rest.from g x there on)).1
   ];
   listed = λ g inside. elim inside [
     | inl here ↦ subst (λ (h : Going). among channel_numbers h.channel ≡ true) (sym here) (first_listed (can_take b) channel_numbers c is)

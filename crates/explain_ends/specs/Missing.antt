@@ -31,7 +31,7 @@ pub record LacksAxis (b : Board) (c : ℕ) (axes : List ℕ) : Type 0 where
 abbrev pub Lacks : Board → ℕ → Hold → Type 0
 Lacks b c (AtMarks number named) = LacksMark b c number named
 Lacks b c (AtEnds named) = LacksEnd b named
-Lacks b c (AtAxes axes) = LacksAxis b c axes
+Lacks b c (AtAxes from_standing axes) = LacksAxis b c axes
 
 -- a channel that waits when a run is over lacks something
 abbrev pub WhoWaitsLacks : StartView → RunView → ℕ → Hold → ℕ → Type 0

@@ -13,11 +13,11 @@ use Rattle.sync_types.proofs.BoardTests.{no_truth, among_kept, first_passes}
 use Rattle.sync_types.proofs.TakenAxes.{named_and_not_own}
 use Rattle.sync_types.specs.Boards.{Hold, AtAxes, State, IsRunning, IsHolding, Board, among, channel_numbers, owns, positions_where, grant_with, no_positions}
 use Rattle.sync_types.specs.Events.{channels_in}
-use Rattle.sync_types.specs.GoingOn.{Going, goes_at_once, goers_at_once, lowers, marks_after_goes, state_after_goes, after_goes, waits_for_axes, axes_asked, can_take, next_taker, axes_to_take, free_position, grant_of_taker, state_after_taking, after_taking, going_of_taker, takings, takings_from, all_takings, going_of_start, going_at_once, goings_on, after_goings}
+use Rattle.sync_types.specs.GoingOn.{Going, goes_at_once, goers_at_once, lowers, marks_after_goes, state_after_goes, after_goes, waits_for_axes, axes_asked, can_take, next_taker, axes_to_take, resting_position, grant_of_taker, state_after_taking, after_taking, going_of_taker, takings, takings_from, all_takings, going_of_start, going_at_once, goings_on, after_goings}
 
 -- who waits for axes
 axes_lower_none : (s : State) (m : ℕ) → waits_for_axes s ≡ true → lowers s m ≡ false
-axes_lower_none (IsHolding (AtAxes axes) line) m on = refl
+axes_lower_none (IsHolding (AtAxes from_standing axes) line) m on = refl
 axes_lower_none other m on = no_truth false on refl
 
 no_wait_lowers_none : (s : State) (m : ℕ) → wait_in s ≡ None → lowers s m ≡ false
@@ -47,15 +47,15 @@ pub record TakesFrom (b : Board) (g : Going) : Type 0 where
 
 grant_at : (b : Board) (c x : ℕ) → x < AXIS_LIMIT → is_some (position_of (grant_of_taker b c).at x) ≡ among (axes_to_take b c) x
 unfolding grant_of_taker grant_with
-grant_at b c x below = ap is_some (get_or-map-range_with_len (λ y. if among (axes_to_take b c) y then Some (free_position (b.axis y)) else None) 0 AXIS_LIMIT x x None below (omega arith)) ∙ chosen (among (axes_to_take b c) x)
+grant_at b c x below = ap is_some (get_or-map-range_with_len (λ y. if among (axes_to_take b c) y then Some (resting_position b y (b.axis y)) else None) 0 AXIS_LIMIT x x None below (omega arith)) ∙ chosen (among (axes_to_take b c) x)
   where
-    chosen : (t : Bool) → is_some (if t then Some (free_position (b.axis x)) else None) ≡ t
+    chosen : (t : Bool) → is_some (if t then Some (resting_position b x (b.axis x)) else None) ≡ t
     chosen true = refl
     chosen false = refl
 
 grant_past : (b : Board) (c x : ℕ) → AXIS_LIMIT ≤ x → is_some (position_of (grant_of_taker b c).at x) ≡ false
 unfolding grant_of_taker grant_with
-grant_past b c x up = ap is_some (get_or-eq_default (positions_where (among (axes_to_take b c)) (λ y. free_position (b.axis y))) None up)
+grant_past b c x up = ap is_some (get_or-eq_default (positions_where (among (axes_to_take b c)) (λ y. resting_position b y (b.axis y))) None up)
 
 taker_takes : (b : Board) (c : ℕ) → waits_for_axes (b.state c) ≡ true → TakesFrom b (going_of_taker b c)
 taker_takes b c waits = record {
@@ -144,7 +144,7 @@ goer : (b : Board) (c : ℕ) → among (goers_at_once b) c ≡ true → goes_at_
 goer b c on = (and_parts (among channel_numbers c) (goes_at_once b (b.state c)) (sym (among_kept (λ d. goes_at_once b (b.state d)) channel_numbers c) ∙ on)).1
 
 goes_not_waits : (b : Board) (s : State) → goes_at_once b s ≡ true → waits_for_axes s ≡ false
-goes_not_waits b (IsHolding (AtAxes axes) line) on = no_truth false on refl
+goes_not_waits b (IsHolding (AtAxes from_standing axes) line) on = no_truth false on refl
 goes_not_waits b other on = refl
 
 -- all that go on

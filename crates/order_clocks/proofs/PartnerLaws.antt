@@ -48,10 +48,10 @@ names_by_wait g h = by_states g.from h.from
         ≡ name_both (wait_in s) (wait_in t) g.channel h.channel
     by_states (IsHolding (AtMarks m one) k) (IsHolding (AtMarks n two) l) = same_numbers m n (among one h.channel) (among two g.channel)
     by_states (IsHolding (AtMarks m one) k) (IsHolding (AtEnds two) l) = never ((m == m) && among one h.channel)
-    by_states (IsHolding (AtMarks m one) k) (IsHolding (AtAxes two) l) = never ((m == m) && among one h.channel)
+    by_states (IsHolding (AtMarks m one) k) (IsHolding (AtAxes from_standing two) l) = never ((m == m) && among one h.channel)
     by_states (IsHolding (AtMarks m one) k) other = never ((m == m) && among one h.channel)
     by_states (IsHolding (AtEnds one) k) t = refl
-    by_states (IsHolding (AtAxes one) k) t = refl
+    by_states (IsHolding (AtAxes from_standing one) k) t = refl
     by_states other t = refl
 
 kept_names : (one two : Option WaitAt) (a b : ℕ) → are_named (marks_in one) (marks_in two) a b ≡ name_both (wait_shown one) (wait_shown two) a b
@@ -78,10 +78,10 @@ name_both_back (Some (AtMarks m one, k)) (Some (AtMarks n two, l)) a b on =
     let names = and_parts (among one b) (among two a) parts.1 in
     rw (eq-eqb n m (sym (eqb-true m n parts.0)), names.0, names.1) refl
 name_both_back (Some (AtMarks m one, k)) (Some (AtEnds two, l)) a b on = no_truth false on refl
-name_both_back (Some (AtMarks m one, k)) (Some (AtAxes two, l)) a b on = no_truth false on refl
+name_both_back (Some (AtMarks m one, k)) (Some (AtAxes from_standing two, l)) a b on = no_truth false on refl
 name_both_back (Some (AtMarks m one, k)) None a b on = no_truth false on refl
 name_both_back (Some (AtEnds one, k)) w a b on = no_truth false on refl
-name_both_back (Some (AtAxes one, k)) w a b on = no_truth false on refl
+name_both_back (Some (AtAxes from_standing one, k)) w a b on = no_truth false on refl
 name_both_back None w a b on = no_truth false on refl
 
 -- the pairs of a list

@@ -80,7 +80,7 @@ to_traces b moves i race (LoweredWhileAwaited lowering d m line named step event
     StillWaits lowering d m line named step event (lowered_to b moves lowering.step lowering.channel lowering.go m event lowers) other after names is
 to_traces b moves i race (MetUnlike g h m line other_line x named other_named in_g in_h from_g from_h names differ is) = Differ g h m line other_line x named other_named in_g in_h from_g from_h names differ is
 to_traces b moves i race (TakenThenAsked taking get x step pair takes asks is) = Apart taking get (Took x) step (apart_if b moves taking get (Took x) pair takes (act_to get.go (going_at b moves get) (asks_for (happening_at b moves get.step).begins x) asks)) is
-to_traces b moves i race (TakenWhileAsked g d x line axes in_g took other after asked is) = StillAsks g d x line axes in_g took other after asked is
+to_traces b moves i race (TakenWhileAsked g d x line from_standing axes in_g took other after asked is) = StillAsks g d x line from_standing axes in_g took other after asked is
 to_traces b moves i race (TouchedTwice early late c step pair one other is) =
     Apart early late (Touched c) step (apart_if b moves early late (Touched c) pair (act_to early.go (going_at b moves early) (among (happening_at b moves early.step).touches c) one)
     (act_to late.go (going_at b moves late) (among (happening_at b moves late.step).touches c) other)) is
@@ -102,7 +102,7 @@ from_traces b moves i race (Apart early late (Touched c) step apart is) =
 from_traces b moves i race (StillWaits lowering d m line named step event leaves other after names is) =
     LoweredWhileAwaited lowering d m line named step event (lowered_from b moves lowering.step lowering.channel lowering.go lowering.channel m event leaves).1 other after names is
 from_traces b moves i race (Differ g h m line other_line x named other_named in_g in_h from_g from_h names differ is) = MetUnlike g h m line other_line x named other_named in_g in_h from_g from_h names differ is
-from_traces b moves i race (StillAsks g d x line axes in_g took other after asked is) = TakenWhileAsked g d x line axes in_g took other after asked is
+from_traces b moves i race (StillAsks g d x line from_standing axes in_g took other after asked is) = TakenWhileAsked g d x line from_standing axes in_g took other after asked is
 
 -- both tellings agree
 pub races_agree : (b : Board) (moves : List Move) (i : ℕ) (race : Race) → IsRace b moves i race ↔ IsTracedRace b moves i race

@@ -77,7 +77,7 @@ wait_lowers other m = false
 lowers_by_wait : (s : State) (m : ℕ) → lowers s m ≡ wait_lowers (wait_in s) m
 lowers_by_wait (IsHolding (AtMarks n named) line) m = refl
 lowers_by_wait (IsHolding (AtEnds named) line) m = refl
-lowers_by_wait (IsHolding (AtAxes axes) line) m = refl
+lowers_by_wait (IsHolding (AtAxes from_standing axes) line) m = refl
 lowers_by_wait other m = refl
 
 kept_lowers : (held : Option WaitAt) (m : ℕ) → lowers_at held m ≡ wait_lowers (wait_shown held) m
@@ -170,13 +170,13 @@ only_one b c step g running within = found (going_of (goings_in_step b c step) g
     found None e = no_truth false (ap is_some (sym e) ∙ (going_some (goings_in_step b c step) g.channel ∙ there)) refl
 
 abbrev wait_axes : Option (Hold × ℕ) → Bool
-wait_axes (Some (AtAxes axes, line)) = true
+wait_axes (Some (AtAxes from_standing axes, line)) = true
 wait_axes other = false
 
 axes_by_wait : (s : State) → waits_for_axes s ≡ wait_axes (wait_in s)
 axes_by_wait (IsHolding (AtMarks n named) line) = refl
 axes_by_wait (IsHolding (AtEnds named) line) = refl
-axes_by_wait (IsHolding (AtAxes axes) line) = refl
+axes_by_wait (IsHolding (AtAxes from_standing axes) line) = refl
 axes_by_wait other = refl
 
 kept_axes : (held : Option WaitAt) → is_at_axes held ≡ wait_axes (wait_shown held)
@@ -189,13 +189,13 @@ kept_axes (Some held) = by_hold held.hold held.line
 kept_axes None = refl
 
 abbrev asked_in : Option (Hold × ℕ) → List ℕ
-asked_in (Some (AtAxes axes, line)) = axes
+asked_in (Some (AtAxes from_standing axes, line)) = axes
 asked_in other = []
 
 asked_by_wait : (s : State) → axes_asked s ≡ asked_in (wait_in s)
 asked_by_wait (IsHolding (AtMarks n named) line) = refl
 asked_by_wait (IsHolding (AtEnds named) line) = refl
-asked_by_wait (IsHolding (AtAxes axes) line) = refl
+asked_by_wait (IsHolding (AtAxes from_standing axes) line) = refl
 asked_by_wait other = refl
 
 asked_below : (held : Option WaitAt) (x : ℕ) → WaitIsSound held → among (asked_in (wait_shown held)) x ≡ true → x < AXIS_LIMIT
@@ -229,7 +229,7 @@ took_read b g held x from sound e =
     false_by false bad = refl
 
     none_asked : (s : State) → waits_for_axes s ≡ false → axes_asked s ≡ []
-    none_asked (IsHolding (AtAxes axes) line) off = no_truth true refl off
+    none_asked (IsHolding (AtAxes from_standing axes) line) off = no_truth true refl off
     none_asked other off = refl
 
 pub going_read : (mid : BoardReplay) (b : Board) (c : ℕ) (step : Step) (goes : List Go) (d : ℕ) (gone : Option Wakeup) → is_running (b.state c) ≡ true → Keeps mid (after_own_part b c step)

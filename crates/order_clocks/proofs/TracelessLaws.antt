@@ -100,7 +100,7 @@ traceless_race b ms i deed race read alone quiet is = by_case ((races_agree b ms
     by_case (StillWaits lowering d m line named step event leaves other after names is) =
         true≢false (sym leaves ∙ left lowering.step lowering.channel lowering.go (Lowered lowering.channel m) step)
     by_case (Differ g h m line other_line x named other_named in_g in_h from_g from_h names differ is) = none_in g in_g
-    by_case (StillAsks g d x line axes in_g took other after asked is) = none_in g in_g
+    by_case (StillAsks g d x line from_standing axes in_g took other after asked is) = none_in g in_g
 
 pub traceless_least : (b : Board) (ms : List Move) (i : ℕ) (deed : StepEvents) → IsRead deed (happening_at b ms i)
     → ((g : Going) → IsIn g (happening_at b ms i).goings → IsOnlyOne (happening_at b ms i).goings g)

@@ -39,13 +39,13 @@ and_back false false = refl
 lowers_by : Option (Hold × ℕ) → ℕ → Bool
 lowers_by (Some (AtMarks n named, line)) m = m == n
 lowers_by (Some (AtEnds named, line)) m = false
-lowers_by (Some (AtAxes axes, line)) m = false
+lowers_by (Some (AtAxes from_standing axes, line)) m = false
 lowers_by None m = false
 
 names_by : Option (Hold × ℕ) → ℕ → ℕ → Bool
 names_by (Some (AtMarks n named, line)) m c = (n == m) && among named c
 names_by (Some (AtEnds named, line)) m c = false
-names_by (Some (AtAxes axes, line)) m c = false
+names_by (Some (AtAxes from_standing axes, line)) m c = false
 names_by None m c = false
 
 pub line_by : Option (Hold × ℕ) → ℕ
@@ -56,14 +56,14 @@ state_lowers : (s : State) (m : ℕ) → lowers s m ≡ lowers_by (wait_in s) m
 unfolding lowers_by
 state_lowers (IsHolding (AtMarks n named) line) m = refl
 state_lowers (IsHolding (AtEnds named) line) m = refl
-state_lowers (IsHolding (AtAxes axes) line) m = refl
+state_lowers (IsHolding (AtAxes from_standing axes) line) m = refl
 state_lowers other m = refl
 
 state_names : (s : State) (m c : ℕ) → events.names_at s m c ≡ names_by (wait_in s) m c
 unfolding names_by
 state_names (IsHolding (AtMarks n named) line) m c = refl
 state_names (IsHolding (AtEnds named) line) m c = refl
-state_names (IsHolding (AtAxes axes) line) m c = refl
+state_names (IsHolding (AtAxes from_standing axes) line) m c = refl
 state_names other m c = refl
 
 pub state_line : (s : State) → line_in s ≡ line_by (wait_in s)

@@ -260,14 +260,14 @@ stops_tell b es ends last alarmed whole places numbers flags = record { alarm = 
 rests_by_wait : Option (Hold × ℕ) → ℕ → List ℕ → List Key
 rests_by_wait (Some (AtMarks m named, line)) c took = map (λ d. Raised d m) named
 rests_by_wait (Some (AtEnds named, line)) c took = map Ended named
-rests_by_wait (Some (AtAxes axes, line)) c took = map Freed took
+rests_by_wait (Some (AtAxes from_standing axes, line)) c took = map Freed took
 rests_by_wait None c took = Started c ∷ []
 
 going_rests : (g : Going) (s : State) → rests_in g s ≡ rests_by_wait (wait_in s) g.channel g.took
 unfolding rests_by_wait
 going_rests g (IsHolding (AtMarks m named) line) = refl
 going_rests g (IsHolding (AtEnds named) line) = refl
-going_rests g (IsHolding (AtAxes axes) line) = refl
+going_rests g (IsHolding (AtAxes from_standing axes) line) = refl
 going_rests g other = refl
 
 departure_rests : (c : ℕ) (took : List Bool) (list : List ℕ) (held : Option WaitAt) (k : Key) → ((x : ℕ) → has took x ≡ among list x) → IsIn k (rests_by_wait (wait_shown held) c list) ↔ IsIn k (rests_at c took held)

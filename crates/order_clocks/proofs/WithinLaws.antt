@@ -139,17 +139,17 @@ wait_line p q e = ap (λ (w : Hold × ℕ). w.1) (some_inside e)
 same_marks : (k m : ℕ) (one two : List ℕ) → AtMarks k one ≡ AtMarks m two → (k ≡ m) × (one ≡ two)
 same_marks k m one two e = (let number : k ≡ m = cc in number, let named : one ≡ two = cc in named)
 
-same_axes : (one two : List ℕ) → AtAxes one ≡ AtAxes two → one ≡ two
-same_axes one two e = cc
+same_axes : (s t : Bool) (one two : List ℕ) → AtAxes s one ≡ AtAxes t two → one ≡ two
+same_axes s t one two e = cc
 
 ends_apart : (one : List ℕ) (m : ℕ) (two : List ℕ) → AtEnds one ≡ AtMarks m two → ⊥
 ends_apart one m two e = cc
 
-axes_apart : (one : List ℕ) (m : ℕ) (two : List ℕ) → AtAxes one ≡ AtMarks m two → ⊥
-axes_apart one m two e = cc
+axes_apart : (s : Bool) (one : List ℕ) (m : ℕ) (two : List ℕ) → AtAxes s one ≡ AtMarks m two → ⊥
+axes_apart s one m two e = cc
 
-ends_of_axes : (one two : List ℕ) → AtEnds one ≡ AtAxes two → ⊥
-ends_of_axes one two e = cc
+ends_of_axes : (one : List ℕ) (s : Bool) (two : List ℕ) → AtEnds one ≡ AtAxes s two → ⊥
+ends_of_axes one s two e = cc
 
 -- the wait of a channel and its event
 record HasWait (waits : List (Option Event)) (d : ℕ) (hold : Hold) (line : ℕ) : Type 0 where
@@ -208,7 +208,7 @@ marks_to (Some held) m line named e = by_hold held.hold held.line e
         let inside = same_marks k m (members_of others) named (wait_inside (AtMarks k (members_of others), l) (AtMarks m named, line) same) in
         (others, (rw inside.0 refl, inside.1))
     by_hold (Ends others) l same = absurd (ends_apart (members_of others) m named (wait_inside (AtEnds (members_of others), l) (AtMarks m named, line) same))
-    by_hold (Axes others) l same = absurd (axes_apart (members_of others) m named (wait_inside (AtAxes (members_of others), l) (AtMarks m named, line) same))
+    by_hold (Axes others) l same = absurd (axes_apart false (members_of others) m named (wait_inside (AtAxes false (members_of others), l) (AtMarks m named, line) same))
 marks_to None m line named e = absurd (none-some (AtMarks m named, line) (e))
 
 -- all that is known of a step
@@ -263,7 +263,7 @@ waiting_is b ms i deed rows events waits holds race told r = elim (cases_eq r.pl
       | inl act ↦ absurd (false≢true (sym (act.left (Took x)) ∙ met.left))
       | inr w ↦
           let goer = w.1 in
-          StillAsks w.0 r.place x line (members_of axes) goer.within (sym (goer.took x) ∙ met.left)
+          StillAsks w.0 r.place x line false (members_of axes) goer.within (sym (goer.took x) ∙ met.left)
           (apart_back r.race_of.early.channel r.late.channel w.0.channel r.place other (sym goer.channel) channel)
           after (list_any-members_of axes x ∙ (sym (asks x) ∙ met.minded))
           (is ∙ same_race letter_f r.race_of.early.channel r.race_of.early.line r.late.channel r.late.line w.0.channel (line_in w.0.from) r.place line (sym goer.channel) goer.line channel at)
@@ -437,12 +437,12 @@ race_is b ms i deed rows events waits holds race told (Differ g h m line other_l
         };
       };
     }))
-race_is b ms i deed rows events waits holds race told (StillAsks g d x line axes in_g took other after asked is) =
+race_is b ms i deed rows events waits holds race told (StillAsks g d x line from_standing axes in_g took other after asked is) =
     let og = told.alone g in_g in
     let eg = goer_event b ms i g.channel deed rows events og.other told.read told.are told.known.from_one told.known.size og.found in
     let cg : eg.event.channel ≡ g.channel = sym eg.goer.channel ∙ (going_within (happening_at b ms i).goings g.channel og.other og.found).1 in
     let lg : eg.event.line ≡ line_in g.from = eg.goer.line ∙ (state_line og.other.from ∙ (ap line_by og.from ∙ sym (state_line g.from))) in
-    let w = wait_event b ms i d line (AtAxes axes) holds waits told.held told.size told.waited after in
+    let w = wait_event b ms i d line (AtAxes from_standing axes) holds waits told.held told.size told.waited after in
     inl (inl (record {
       place = d;
       within = w.below;
@@ -469,10 +469,10 @@ race_is b ms i deed rows events waits holds race told (StillAsks g d x line axes
       };
     }))
   where
-    asks_from : (h : code.Hold) → hold_shown h ≡ AtAxes axes → asks_of_hold h x ≡ true
-    asks_from (Axes set) e = let same = same_axes (members_of set) axes e in sym (list_any-members_of set x) ∙ (ap (λ (ns : List ℕ). among ns x) same ∙ asked)
-    asks_from (Marks n named) e = absurd (axes_apart axes n (members_of named) (sym e))
-    asks_from (Ends named) e = absurd (ends_of_axes (members_of named) axes e)
+    asks_from : (h : code.Hold) → hold_shown h ≡ AtAxes from_standing axes → asks_of_hold h x ≡ true
+    asks_from (Axes set) e = let same = same_axes false from_standing (members_of set) axes e in sym (list_any-members_of set x) ∙ (ap (λ (ns : List ℕ). among ns x) same ∙ asked)
+    asks_from (Marks n named) e = absurd (axes_apart from_standing axes n (members_of named) (sym e))
+    asks_from (Ends named) e = absurd (ends_of_axes (members_of named) from_standing axes e)
 
 -- the races of the step
 pub step_is : (b : Board) (ms : List Move) (i : ℕ) (deed : StepEvents) (rows : StepClocks) (events waits : List (Option Event)) (holds : List (Option WaitAt)) → IsTold b ms i deed rows events waits holds → (race : Race)

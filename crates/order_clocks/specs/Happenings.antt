@@ -112,7 +112,7 @@ going_of goings c = find (λ g. g.channel == c) goings
 abbrev pub rests_in : Going → State → List Key
 rests_in g (IsHolding (AtMarks number named) line) = map (λ d. Raised d number) named
 rests_in g (IsHolding (AtEnds named) line) = map Ended named
-rests_in g (IsHolding (AtAxes axes) line) = map Freed g.took
+rests_in g (IsHolding (AtAxes from_standing axes) line) = map Freed g.took
 rests_in g other = Started g.channel ∷ []
 
 abbrev pub rests_on : Option Going → List Key
@@ -125,7 +125,7 @@ waits_for (Some (AtMarks number named)) c m = (number == m) && among named c
 waits_for other c m = false
 
 abbrev pub asks_for : Option Hold → ℕ → Bool
-asks_for (Some (AtAxes axes)) x = among axes x
+asks_for (Some (AtAxes from_standing axes)) x = among axes x
 asks_for other x = false
 
 -- a test of how a channel goes on, false where it does not; and the line of the wait that ends

@@ -85,8 +85,8 @@ pub data IsRace (b : Board) (moves : List Move) (i : ℕ) (race : Race) : Type 0
       → takes_axis b moves taking x ≡ true → asks_for_axis b moves get x ≡ true
       → race ≡ record { case = letter_e; first = place_of b moves taking; second = place_of b moves get } → IsRace b moves i race
   -- f: an axis is taken, and when the step is over another channel waits at a GET that names it
-  TakenWhileAsked : (g : Going) (d x line : ℕ) (axes : List ℕ) → IsIn g (happening_at b moves i).goings → among g.took x ≡ true → (d == g.channel) ≡ false
-      → (happening_at b moves i).after d ≡ IsHolding (AtAxes axes) line → among axes x ≡ true
+  TakenWhileAsked : (g : Going) (d x line : ℕ) (from_standing : Bool) (axes : List ℕ) → IsIn g (happening_at b moves i).goings → among g.took x ≡ true → (d == g.channel) ≡ false
+      → (happening_at b moves i).after d ≡ IsHolding (AtAxes from_standing axes) line → among axes x ≡ true
       → race ≡ record { case = letter_f; first = (g.channel, line_in g.from); second = (d, line) } → IsRace b moves i race
   -- g: two channels do INIT or START on one channel in different steps, and the earlier is not before the later
   TouchedTwice : (early late : EventId) (c : ℕ) → late.step ≡ i → AreUnsettled b moves early late

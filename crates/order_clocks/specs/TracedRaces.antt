@@ -84,6 +84,6 @@ pub data IsTracedRace (b : Board) (moves : List Move) (i : ℕ) (race : Race) : 
       → among named h.channel ≡ true → (((x == g.channel) || among named x) ≡ ((x == h.channel) || among other_named x) → ⊥)
       → race ≡ record { case = letter_d; first = (h.channel, other_line); second = (g.channel, line) } → IsTracedRace b moves i race
   -- f
-  StillAsks : (g : Going) (d x line : ℕ) (axes : List ℕ) → IsIn g (happening_at b moves i).goings → among g.took x ≡ true → (d == g.channel) ≡ false
-      → (happening_at b moves i).after d ≡ IsHolding (AtAxes axes) line → among axes x ≡ true
+  StillAsks : (g : Going) (d x line : ℕ) (from_standing : Bool) (axes : List ℕ) → IsIn g (happening_at b moves i).goings → among g.took x ≡ true → (d == g.channel) ≡ false
+      → (happening_at b moves i).after d ≡ IsHolding (AtAxes from_standing axes) line → among axes x ≡ true
       → race ≡ record { case = letter_f; first = (g.channel, line_in g.from); second = (d, line) } → IsTracedRace b moves i race

@@ -33,7 +33,7 @@ wait_in other = None
 abbrev pub hold_shown : code.Hold → Hold
 hold_shown (Marks m named) = AtMarks m (members_of named)
 hold_shown (Ends named) = AtEnds (members_of named)
-hold_shown (Axes axes) = AtAxes (members_of axes)
+hold_shown (Axes axes) = AtAxes false (members_of axes)
 
 abbrev pub begun_shown : Option code.Hold → Option Hold
 begun_shown (Some hold) = Some (hold_shown hold)

@@ -58,8 +58,8 @@ module _ (equipment : SetupView) (found : SituationView) (line : ℕ) where
       by_test : (b : Bool) → OnlyMoves (cond b (Err 10) (words_run equipment found line groups words))
       by_test true = tt
       by_test false =
-          moves_bind (words_done equipment (first_progress found.parameters) words) (λ p. words_moved equipment found groups p.targets p.arc >>= λ motion. Ok (left line found p motion))
-          (λ p. moves_bind (words_moved equipment found groups p.targets p.arc) (λ motion. Ok (left line found p motion)) on_motion)
+          moves_bind (words_done equipment (first_progress found.parameters found.choices) words) (λ p. words_moved equipment found groups p >>= λ motion. Ok (left line found p motion))
+          (λ p. moves_bind (words_moved equipment found groups p) (λ motion. Ok (left line found p motion)) on_motion)
 
   framed_still : (made : Result (List Map) ℕ) → OnlyMoves (frame_effect found made)
   framed_still (Ok chain) = λ item is. absurd cc

@@ -1,4 +1,4 @@
--- What each step keeps of a board: free axes stand in range, so do the axes of all grants, and channels are stopped by alarms of the table.
+-- What each step keeps of a board: axes that are free stand in range, and those of channels after their last steps, so do the axes of all grants, and channels are stopped by alarms of the table.
 use Rattle.axis_sets.specs.declared.limits.TheConstants.{AXIS_LIMIT, CHANNEL_LIMIT}
 use Rattle.std.proofs.Common.{◌≡◌, ℕ, zero, suc, ℤ, pos, ◌==◌, Bool, true, false, cond, List, [], ◌∷◌, length, map, Option, None, Some, IfSome, refl, arith}
 use Rattle.std.proofs.lemmas.List.{length-map}
@@ -7,10 +7,10 @@ use Rattle.channel_machine.specs.Run.{IsListedAction}
 use Rattle.micro_units.specs.Position.{IsPosition}
 use Rattle.fault_codes.specs.Codes.{IsAlarmCode, alarm_codes}
 use Rattle.sync_types.proofs.BoardTests.{by_test}
-use Rattle.sync_types.specs.BoardActions.{after_action, after_alarm, after_effects, after_own_part, after_part, channels_to_start, ownership_after, position_or_zero, state_after_action, state_after_alarm, state_of_actor, axes_to_free}
+use Rattle.sync_types.specs.BoardActions.{after_action, after_alarm, after_effects, after_own_part, after_part, channels_to_start, last_position_after, ownership_after, position_or_zero, state_after_action, state_after_alarm, state_of_actor, axes_to_free}
 use Rattle.sync_types.specs.BoardAlarms.{alarm_of, names_no_mark, names_no_channel, names_no_axis, lets_go_of_others, splits_a_zone, finds_own_mark, finds_one_awake, starts_without_program, own_alarm}
 use Rattle.sync_types.specs.Boards.{State, IsRunning, HasAlarmed, Ownership, OwnedBy, FreeAt, Board, among, axis_numbers, board_at_rest, first_board, first_state, grant_with, no_positions, owns, ownership_of, positions_where, start_grant}
-use Rattle.sync_types.specs.GoingOn.{after_goes, after_taking, axes_to_take, free_position, goers_at_once, grant_of_taker, next_taker, ownership_after_taking, state_after_goes, state_after_taking, takings, takings_from, with_its_axes}
+use Rattle.sync_types.specs.GoingOn.{after_goes, after_taking, axes_to_take, resting_position, goers_at_once, grant_of_taker, next_taker, ownership_after_taking, state_after_goes, state_after_taking, takings, takings_from, with_its_axes}
 use Rattle.sync_types.specs.Starts.{first_owner, first_position, runs_at_first}
 use Rattle.sync_types.specs.Turns.{after_step}
 use Rattle.sync_types.specs.Views.{StartView}
@@ -39,6 +39,7 @@ IsGoodPlace (FreeAt position) = IsPosition position
 pub record IsGood (b : Board) : Type 0 where
   pub states : (d : ℕ) → IsGoodState (b.state d)
   pub places : (x : ℕ) → IsGoodPlace (b.axis x)
+  pub left : (d x : ℕ) → IsPosition (b.last_position d x)
   pub first : (x : ℕ) → IsPosition (first_position b.start x)
 
 pub record IsGoodStep (step : Step) : Type 0 where
@@ -76,14 +77,17 @@ started : (b : Board) (c : ℕ) → ((x : ℕ) → IsPosition (first_position b.
 unfolding start_grant
 started b c first = granted b c (positions_where (owns b c) (first_position b.start)) (some_in_range (owns b c) (first_position b.start) first)
 
-free_in_range : (a : Ownership) → IsGoodPlace a → IsPosition (free_position a)
-free_in_range (OwnedBy c) good = zero_in_range
-free_in_range (FreeAt position) good = good
+resting_in_range : (b : Board) (x : ℕ) → IsGood b → IsPosition (resting_position b x (b.axis x))
+resting_in_range b x good = by_owner (b.axis x) (good.places x)
+  where
+    by_owner : (a : Ownership) → IsGoodPlace a → IsPosition (resting_position b x a)
+    by_owner (OwnedBy c) place = good.left c x
+    by_owner (FreeAt position) place = place
 
 taken : (b : Board) (c : ℕ) → IsGood b → IsGoodGrant (grant_of_taker b c)
 unfolding grant_of_taker
-taken b c good = granted (with_its_axes b c) c (positions_where (among (axes_to_take b c)) (λ x. free_position (b.axis x)))
-    (some_in_range (among (axes_to_take b c)) (λ x. free_position (b.axis x)) (λ x. free_in_range (b.axis x) (good.places x)))
+taken b c good = granted (with_its_axes b c) c (positions_where (among (axes_to_take b c)) (λ x. resting_position b x (b.axis x)))
+    (some_in_range (among (axes_to_take b c)) (λ x. resting_position b x (b.axis x)) (λ x. resting_in_range b x good))
 
 -- ---- alarms
 
@@ -120,11 +124,17 @@ alarm_listed b c action listed =
 
 -- ---- the channel's own part
 
-good_alarm : (b : Board) (c : ℕ) (step : Step) (code : ℕ) → IsAlarmCode code → IsGood b → IsGood (after_alarm b c step code)
+left_in_range : (b : Board) (c : ℕ) (step : Step) (d x : ℕ) → AreInRange step.at → IsGood b → IsPosition (last_position_after b c step d x)
+unfolding last_position_after
+left_in_range b c step d x in_range good =
+    by_test IsPosition (d == c) _ _ (λ here. read_in_range (position_of step.at x) (in_range x)) (λ other. good.left d x)
+
+good_alarm : (b : Board) (c : ℕ) (step : Step) (code : ℕ) → IsAlarmCode code → AreInRange step.at → IsGood b → IsGood (after_alarm b c step code)
 unfolding state_after_alarm
-good_alarm b c step code listed good = record {
+good_alarm b c step code listed in_range good = record {
   states = λ d. by_test IsGoodState (d == c) (HasAlarmed code step.line) (b.state d) (λ here. listed) (λ other. good.states d);
   places = good.places;
+  left = λ d x. left_in_range b c step d x in_range good;
   first = good.first;
 }
 
@@ -146,11 +156,12 @@ good_action b c step in_range good = record {
   states = λ d. by_test IsGoodState (d == c) _ _ (λ here. good_actor (after_effects b c step) c step.line step.action)
       (λ other. by_test IsGoodState (among (channels_to_start step.action) d) _ _ (λ starts. started (after_effects b c step) d good.first) (λ rests. good.states d));
   places = λ x. by_test IsGoodPlace (among (axes_to_free step.action) x) _ _ (λ freed. read_in_range (position_of step.at x) (in_range x)) (λ kept. good.places x);
+  left = λ d x. left_in_range b c step d x in_range good;
   first = good.first;
 }
 
 good_part : (b : Board) (c : ℕ) (step : Step) (alarm : Option ℕ) → IfSome alarm IsAlarmCode → AreInRange step.at → IsGood b → IsGood (after_part b c step alarm)
-good_part b c step (Some code) listed in_range good = good_alarm b c step code listed good
+good_part b c step (Some code) listed in_range good = good_alarm b c step code listed in_range good
 good_part b c step None listed in_range good = good_action b c step in_range good
 
 -- ---- who goes on
@@ -160,6 +171,7 @@ unfolding state_after_goes
 good_goes b good = record {
   states = λ d. by_test IsGoodState (among (goers_at_once b) d) _ _ (λ goes. granted b d no_positions none_in_range) (λ rests. good.states d);
   places = good.places;
+  left = good.left;
   first = good.first;
 }
 
@@ -168,6 +180,7 @@ unfolding state_after_taking ownership_after_taking
 good_taking b c good = record {
   states = λ d. by_test IsGoodState (d == c) _ _ (λ here. taken b c good) (λ other. good.states d);
   places = λ x. by_test IsGoodPlace (among (axes_to_take b c) x) _ _ (λ taken. tt) (λ kept. good.places x);
+  left = good.left;
   first = good.first;
 }
 
@@ -195,5 +208,6 @@ unfolding first_state
 good_first start first = record {
   states = λ d. by_test IsGoodState (runs_at_first start d) _ _ (λ runs. started (board_at_rest start) d first) (λ rests. tt);
   places = λ x. first_place (first_owner start x) (first_position start x) (first x);
+  left = λ d x. first x;
   first = first;
 }

@@ -105,6 +105,7 @@ own_turn job stage usage c runs own =
                   (λ here. subst (λ (e : ℕ). IsOwnState count (stage.grants e) stage.board.start (owns stage.board e) (stage.board.state e)) (sym (eqb-true d c here)) uses.0)
                   (λ other. own.owned.own.states d);
             };
+            robs = own.owned.robs;
           });
     }
 

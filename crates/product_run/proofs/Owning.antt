@@ -11,11 +11,12 @@ use Rattle.channel_machine.proofs.Pasts.{fold-push}
 use Rattle.coordination_words.specs.Laws.{selected_program}
 use Rattle.product_run.proofs.KeptMachines.{IsKept, IsLawful, is_zone, kept_first, kept_goes, kept_part, kept_taking, lawful}
 use Rattle.sync_types.proofs.BoardTests.{among_kept, by_test, first_passes, no_truth, not_not, passes}
+use Rattle.sync_types.proofs.FreeTakings.{NobodyRobs, first_robs_nobody, goes_rob_nobody, own_part_robs_nobody, taking_robs_nobody}
 use Rattle.sync_types.proofs.TakenAxes.{free_is_not_own, taken_is_free}
 use Rattle.sync_types.specs.BoardActions.{after_action, after_effects, after_own_part, after_part, axes_to_free, channels_to_start, ownership_after, program_after, state_after_action, state_after_alarm, state_of_actor}
 use Rattle.sync_types.specs.BoardAlarms.{alarm_of, lets_go_of_others, starts_without_program}
 use Rattle.sync_types.specs.Boards.{State, IsIdle, IsRunning, IsHolding, HasEnded, HasAlarmed, OwnedBy, Board, among, channel_numbers, first_board, first_state, grant_in, grant_with, is_running, is_this, no_positions, owner_of, owns, positions_where, start_grant, zone_numbers}
-use Rattle.sync_types.specs.GoingOn.{after_goes, after_taking, axes_to_take, can_take, free_position, goers_at_once, goes_at_once, grant_of_taker, next_taker, ownership_after_taking, state_after_goes, state_after_taking, takings, takings_from, waits_for_axes}
+use Rattle.sync_types.specs.GoingOn.{after_goes, after_taking, axes_to_take, can_take, resting_position, goers_at_once, goes_at_once, grant_of_taker, next_taker, ownership_after_taking, state_after_goes, state_after_taking, takings, takings_from, takes_from_standing, waits_for_axes}
 use Rattle.sync_types.specs.Runs.{as_list}
 use Rattle.sync_types.specs.Starts.{axes_of_zone, first_position, first_program, runs_at_first, IsSound}
 use Rattle.sync_types.specs.Turns.{after_step}
@@ -224,10 +225,10 @@ waits : (count : ℕ) (had : List Grant) (start : StartView) (owned : ℕ → Bo
 waits count had start owned (IsHolding hold line) is wait = wait
 waits count had start owned other is own = no_truth false is refl
 
-others_taken : (b : Board) (c d : ℕ) → can_take b c ≡ true → (d == c) ≡ false → (x : ℕ) → owns (after_taking b c) d x ≡ owns b d x
+others_taken : (b : Board) (c d : ℕ) → takes_from_standing (b.state c) ≡ false → can_take b c ≡ true → (d == c) ≡ false → (x : ℕ) → owns (after_taking b c) d x ≡ owns b d x
 unfolding ownership_after_taking
-others_taken b c d takes other x = by_test (λ a. is_this (owner_of a) d ≡ owns b d x) (among (axes_to_take b c) x) _ _
-    (λ taken. other_number d c other ∙ sym (free_is_not_own (b.axis x) d (taken_is_free b c x takes taken)))
+others_taken b c d robs takes other x = by_test (λ a. is_this (owner_of a) d ≡ owns b d x) (among (axes_to_take b c) x) _ _
+    (λ taken. other_number d c other ∙ sym (free_is_not_own (b.axis x) d (taken_is_free b c x robs takes taken)))
     (λ stays. refl)
 
 taker : (count : ℕ) (b : Board) (c : ℕ) (had : List Grant) → IsKept count (after_taking b c) → IsOwnWait had (owns b c)
@@ -241,7 +242,7 @@ taker count b c had k wait =
     (λ none. absurd (wait.begun none))
   where
     place : ℕ → ℤ
-    place x = free_position (b.axis x)
+    place x = resting_position b x (b.axis x)
 
     at : List (Option ℤ)
     at = positions_where (among (axes_to_take b c)) place
@@ -251,14 +252,14 @@ taker count b c had k wait =
     by_taken x within true is own = or_first (is_some (position_of at x)) (was_owned had x) (some_position (among (axes_to_take b c)) place x within ∙ is)
     by_taken x within false is own = or_second (is_some (position_of at x)) (was_owned had x) (wait.had_each x within own)
 
-own_taking : (count : ℕ) (had : ℕ → List Grant) (b : Board) (c : ℕ) → can_take b c ≡ true → IsKept count (after_taking b c) → AreOwn count had b → AreOwn count had (after_taking b c)
+own_taking : (count : ℕ) (had : ℕ → List Grant) (b : Board) (c : ℕ) → takes_from_standing (b.state c) ≡ false → can_take b c ≡ true → IsKept count (after_taking b c) → AreOwn count had b → AreOwn count had (after_taking b c)
 unfolding state_after_taking
-own_taking count had b c takes k own = record {
+own_taking count had b c robs takes k own = record {
   states = λ d. by_test (IsOwnState count (had d) b.start (owns (after_taking b c) d)) (d == c) _ _
       (λ here.
       let P : ℕ → Type 0 = λ e. IsOwnGrant count (had e) b.start (owns (after_taking b c) e) (grant_of_taker b c) in
       subst P (sym (eqb-true d c here)) (taker count b c (had c) k (waits count (had c) b.start (owns b c) (b.state c) (and_parts _ _ takes).0 (own.states c))))
-      (λ other. same_state count (had d) b.start (owns b d) (owns (after_taking b c) d) (b.state d) (others_taken b c d takes other) (own.states d));
+      (λ other. same_state count (had d) b.start (owns b d) (owns (after_taking b c) d) (b.state d) (others_taken b c d robs takes other) (own.states d));
 }
 
 -- ---- a whole step
@@ -266,6 +267,7 @@ own_taking count had b c takes k own = record {
 pub record IsOwned (count : ℕ) (had : ℕ → List Grant) (b : Board) : Type 0 where
   pub kept : IsKept count b
   pub own : AreOwn count had b
+  pub robs : NobodyRobs b
 
 owned_takings : (count : ℕ) (had : ℕ → List Grant) (n : ℕ) (b : Board) → IsOwned count had b → IsOwned count had (takings n b).board
 owned_takings count had zero b o = o
@@ -275,7 +277,7 @@ owned_takings count had (suc n) b o = next (owned_takings count had n) (next_tak
     next rest None is = o
     next rest (Some c) is =
         let k = kept_taking count b c o.kept in
-        rest (after_taking b c) (record { kept = k; own = own_taking count had b c (first_passes (can_take b) channel_numbers c is) k o.own })
+        rest (after_taking b c) (record { kept = k; own = own_taking count had b c (o.robs c) (first_passes (can_take b) channel_numbers c is) k o.own; robs = taking_robs_nobody b c o.robs })
 
 -- by a channel that has used its last grant, and selects a program of the library where it selects one
 pub owned_step : (count : ℕ) (had : ℕ → List Grant) (b : Board) (c : ℕ) (step : Step) → IfSome (selected_program step.action) (λ place. place < count) → IsOwnWait (had c) (owns b c)
@@ -284,7 +286,7 @@ owned_step count had b c step known wait o =
     let part : IsKept count (after_own_part b c step) = kept_part count b c step (alarm_of b c step.action) refl known o.kept in
     let own : AreOwn count had (after_own_part b c step) = own_part count had b c step (alarm_of b c step.action) refl part wait o.own in
     owned_takings count had CHANNEL_LIMIT (after_goes (after_own_part b c step))
-    (record { kept = kept_goes count (after_own_part b c step) part; own = own_goes count had (after_own_part b c step) part own })
+    (record { kept = kept_goes count (after_own_part b c step) part; own = own_goes count had (after_own_part b c step) part own; robs = goes_rob_nobody (after_own_part b c step) (own_part_robs_nobody b c step o.robs) })
 
 -- before the first step
 pub owned_first : (count : ℕ) (start : StartView) → IsSound start → ((d p : ℕ) → first_program start d ≡ Some p → p < count) → IsOwned count (λ d. []) (first_board start)
@@ -296,6 +298,7 @@ owned_first count start sound programs =
       own = record {
         states = λ d. by_test (IsOwnState count [] start (owns (first_board start) d)) (runs_at_first start d) _ _ (λ runs. started count (first_board start) k d [] (sound.programs d runs)) (λ rests. tt);
       };
+      robs = first_robs_nobody start;
     }
 
 -- a channel that goes for its step has used its grant

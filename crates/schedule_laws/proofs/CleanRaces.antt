@@ -204,13 +204,13 @@ no_differ b moves i q g h m line other_line x named other_named wg wh from_g fro
           differ (ap (λ (b : Bool). (x == g.channel) || b) names_g ∙ set ∙ ap (λ (b : Bool). (x == h.channel) || b) (sym names_h))
     ]
 
-no_asking : (b : Board) (moves : List Move) (i : ℕ) (q : CleanAt b moves i) (g : Going) (d x line : ℕ) (axes : List ℕ) → Went (mid q.here) g → among g.took x ≡ true → (d == g.channel) ≡ false → (happening_at b moves i).after d ≡ IsHolding (AtAxes axes) line
+no_asking : (b : Board) (moves : List Move) (i : ℕ) (q : CleanAt b moves i) (g : Going) (d x line : ℕ) (from_standing : Bool) (axes : List ℕ) → Went (mid q.here) g → among g.took x ≡ true → (d == g.channel) ≡ false → (happening_at b moves i).after d ≡ IsHolding (AtAxes from_standing axes) line
     → among axes x ≡ true → ⊥
-no_asking b moves i q g d x line axes wg took n after names =
+no_asking b moves i q g d x line from_standing axes wg took n after names =
     let t : State = mid q.here in
-    let z = waited b moves i q.here d (AtAxes axes) line after in
+    let z = waited b moves i q.here d (AtAxes from_standing axes) line after in
     let p = taking_parts t g.channel (t.own g.channel).seat x (sym (wg.took x) ∙ took) in
-    let asked : asks (t.own d).seat (Axis x) ≡ true = ap (λ (s : Seat). asks s (Axis x)) z.1 ∙ sym (axes_waited (IsHolding (AtAxes axes) line) x) ∙ names in
+    let asked : asks (t.own d).seat (Axis x) ≡ true = ap (λ (s : Seat). asks s (Axis x)) z.1 ∙ sym (axes_waited (IsHolding (AtAxes from_standing axes) line) x) ∙ names in
     no asked (q.clean.going.axes g.channel d x wg.goes p.0 p.1 n)
 
 -- a clean step has no race
@@ -221,4 +221,4 @@ clean_quiet b moves i q race (StillWaits lowering d m line named s event_there l
     (subst (λ (j : ℕ). leaves_at b moves (event j lowering.channel lowering.go) (Lowered lowering.channel m) ≡ true) s leaves) n after names
 clean_quiet b moves i q race (Differ g h m line other_line x named other_named g_in h_in from_g from_h names differ shown_as) =
     no_differ b moves i q g h m line other_line x named other_named (went_told b moves i q.here g g_in) (went_told b moves i q.here h h_in) from_g from_h names differ
-clean_quiet b moves i q race (StillAsks g d x line axes g_in took n after names shown_as) = no_asking b moves i q g d x line axes (went_told b moves i q.here g g_in) took n after names
+clean_quiet b moves i q race (StillAsks g d x line from_standing axes g_in took n after names shown_as) = no_asking b moves i q g d x line from_standing axes (went_told b moves i q.here g g_in) took n after names

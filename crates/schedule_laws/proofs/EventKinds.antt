@@ -1,5 +1,5 @@
 -- Which events of a channel are acts: who runs acts, and who does not run goes on.
-use Rattle.std.proofs.Common.{◌≡◌, ℕ, zero, suc, ◌≤◌, ◌<◌, ◌==◌, not, Bool, true, false, List, [], ◌∷◌, ◌++◌, length, length-append, Some, inl, inr, refl, sym, ap, subst, ◌∙◌, arith, if◌then◌else◌}
+use Rattle.std.proofs.Common.{◌≡◌, ℕ, ℤ, zero, suc, ◌≤◌, ◌<◌, ◌==◌, not, Bool, true, false, List, [], ◌∷◌, ◌++◌, length, length-append, Some, inl, inr, refl, sym, ap, subst, ◌∙◌, arith, if◌then◌else◌}
 use Rattle.std.proofs.lemmas.Bool.{cases_Bool, eqb-true, eq-eqb, ne_eqb, true≢false}
 use Rattle.sync_types.specs.Boards.{State as Doing, IsIdle, IsHolding, Board, among, grant_in, is_this}
 use Rattle.sync_types.specs.Boards as boards
@@ -10,7 +10,7 @@ use Rattle.sync_types.specs.Turns.{Move, AreOfRunning}
 use Rattle.sync_types.specs.declared.runs.EventId.{EventId}
 use Rattle.order_clocks.specs.Happenings.{Happening, board_at}
 use Rattle.order_clocks.proofs.WholeLaws.{board_zero}
-use Rattle.board_laws.specs.Machine.{Seat, In, Own, Span, Effect, holds, doing_of, with_value_at, span_of, touches, own_after_act, effect}
+use Rattle.board_laws.specs.Machine.{Seat, In, Own, Span, Effect, holds, doing_of, with_value_at, span_of, touches, own_after_act, places_told, effect}
 use Rattle.board_laws.specs.Machine as machine
 use Rattle.board_laws.proofs.Basics.{no, ready_holds}
 use Rattle.board_laws.proofs.Goings.{started_in}
@@ -89,12 +89,12 @@ kinds_act b moves i c inside runs size w =
     ]
 
 -- within the step
-acted_seat : (p : ℕ) (o : Own) (marks : ℕ → Bool) (state : Doing) (names : ℕ → Bool) → (own_after_act p o marks state names).seat ≡ In state
+acted_seat : (p : ℕ) (o : Own) (marks : ℕ → Bool) (state : Doing) (names : ℕ → Bool) (place : ℕ → ℤ) → (own_after_act p o marks state names place).seat ≡ In state
 unfolding own_after_act
-acted_seat p o marks state names = refl
+acted_seat p o marks state names place = refl
 
 seat_of_actor : (b : Board) (moves : List Move) (i : ℕ) (w : Here b moves i) (c : ℕ) → (c == w.p) ≡ true → ((mid w).own c).seat ≡ In (part_state w c)
-seat_of_actor b moves i w c y = ap (λ (o : Own). o.seat) (at_actor b moves i w c y) ∙ acted_seat c (own_at b moves i c) (part_marks w c) (part_state w c) (touches w.step.action)
+seat_of_actor b moves i w c y = ap (λ (o : Own). o.seat) (at_actor b moves i w c y) ∙ acted_seat c (own_at b moves i c) (part_marks w c) (part_state w c) (touches w.step.action) (places_told w.step)
 
 in_part : (b : Board) (moves : List Move) (i : ℕ) (w : Here b moves i) (c : ℕ) → (c == w.p) ≡ true → doing_in b moves i c ≡ part_state w c
 in_part b moves i w c y =
@@ -172,7 +172,7 @@ kinds_told b moves c zero fresh run inside = record {
     nothing : {P : Type 0} (n : ℕ) (e : EventId) → event_in [] n ≡ Some e → P
     nothing n e on = let bad : ⊥ = cc in absurd bad
 kinds_told b moves c (suc i) fresh run inside =
-    let w = here b moves i fresh.zones run (omega (arith, inside)) in
+    let w = here b moves i fresh run (omega (arith, inside)) in
     let s = step_at b moves i (omega (arith, inside)) run in
     let told = events_told b moves c i (omega (arith, inside)) in
     let runs : boards.is_running ((board_at b moves i).state (actor b moves i)) ≡ true = ap (λ (h : Happening). boards.is_running ((board_at b moves i).state h.channel)) s.happens ∙ s.runs in

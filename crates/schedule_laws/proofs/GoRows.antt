@@ -90,12 +90,12 @@ named_end (x ∷ xs) line m on = elim (or_cases (same m (End x)) _ on) [
   | inr later ↦ let r = named_end xs line m later in (r.0, (inr r.1.0, r.1.1))
 ]
 
-named_axis : (axes : List ℕ) (line : ℕ) (m : Need) → asks (In (IsHolding (AtAxes axes) line)) m ≡ true → (x : ℕ) × (m ≡ Axis x)
+named_axis : (from_standing : Bool) (axes : List ℕ) (line : ℕ) (m : Need) → asks (In (IsHolding (AtAxes from_standing axes) line)) m ≡ true → (x : ℕ) × (m ≡ Axis x)
 unfolding asks
-named_axis [] line m on = absurd (true≢false (sym on))
-named_axis (x ∷ xs) line m on = elim (or_cases (same m (Axis x)) _ on) [
+named_axis from_standing [] line m on = absurd (true≢false (sym on))
+named_axis from_standing (x ∷ xs) line m on = elim (or_cases (same m (Axis x)) _ on) [
   | inl here ↦ (x, same_true m (Axis x) here)
-  | inr later ↦ named_axis xs line m later
+  | inr later ↦ named_axis from_standing xs line m later
 ]
 
 called_need : (p : ℕ) (m : Need) → asks (Called p) m ≡ true → m ≡ Call p
@@ -144,7 +144,7 @@ key_value b moves i w held c g (In (IsHolding (AtEnds named) line)) e x k on =
     let asked : asks (In (IsHolding (AtEnds named) line)) (End r.0) ≡ true = asks_end named line r.0 r.1.0 in
     let ended = ended_met (mid w) c r.0 (ready_met (mid w) c ((mid w).own c).seat (End r.0) g.goes (ap (λ (z : Seat). asks z (End r.0)) e ∙ asked)) in
     (End r.0, (asked, ap (λ (z : Key). (rows_in b moves i).last z x) r.1.1 ∙ held.ended r.0 x ended))
-key_value b moves i w held c g (In (IsHolding (AtAxes axes) line)) e x k on =
+key_value b moves i w held c g (In (IsHolding (AtAxes from_standing axes) line)) e x k on =
     let r = map_in Freed k g.going.took on in
     let took : axes_taken (mid w) c ((mid w).own c).seat r.0 ≡ true = sym (g.took r.0) ∙ contains_from g.going.took r.0 r.1.0 in
     let p = taking_parts (mid w) c ((mid w).own c).seat r.0 took in
@@ -185,12 +185,12 @@ need_key b moves i w held c g (In (IsHolding (AtEnds named) line)) e x m on =
     let r = named_end named line m on in
     let ended = ended_met (mid w) c r.0 (ready_met (mid w) c ((mid w).own c).seat (End r.0) g.goes (ap (λ (z : Seat). asks z (End r.0)) e ∙ asks_end named line r.0 r.1.0)) in
     inr (Ended r.0, (in_map Ended r.0 named r.1.0, held.ended r.0 x ended ∙ ap (λ (z : Need). value (mid w) c x z) (sym r.1.1)))
-need_key b moves i w held c g (In (IsHolding (AtAxes axes) line)) e x m on =
-    let r = named_axis axes line m on in
+need_key b moves i w held c g (In (IsHolding (AtAxes from_standing axes) line)) e x m on =
+    let r = named_axis from_standing axes line m on in
     elim (cases_Bool (mine (mid w) c r.0)) [
       | inl own ↦ inl (ap (λ (z : Need). value (mid w) c x z) r.1 ∙ ap (λ (t : Bool). if t then 0 else ((mid w).axis r.0).freed x) own)
       | inr off ↦
-          let asked : asks ((mid w).own c).seat (Axis r.0) ≡ true = ap (λ (z : Seat). asks z (Axis r.0)) e ∙ subst (λ (z : Need). asks (In (IsHolding (AtAxes axes) line)) z ≡ true) r.1 on in
+          let asked : asks ((mid w).own c).seat (Axis r.0) ≡ true = ap (λ (z : Seat). asks z (Axis r.0)) e ∙ subst (λ (z : Need). asks (In (IsHolding (AtAxes from_standing axes) line)) z ≡ true) r.1 on in
           let took : among g.going.took r.0 ≡ true = g.took r.0 ∙ taking_from (mid w) c ((mid w).own c).seat r.0 asked off in
           inr (Freed r.0, (in_map Freed r.0 g.going.took (is_in g.going.took r.0 took), sym (freed_in b moves i w r.0 x) ∙ sym (ap (λ (z : Need). value (mid w) c x z) r.1 ∙ ap (λ (t : Bool). if t then 0 else ((mid w).axis r.0).freed x) off)))
     ]

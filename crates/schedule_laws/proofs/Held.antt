@@ -1,10 +1,12 @@
 -- What is so of waits and ends, and that the machine of a run rests between its steps.
-use Rattle.std.proofs.Common.{◌≡◌, ℕ, zero, suc, ◌≤◌, ◌==◌, ◌&&◌, ◌||◌, Bool, true, false, List, length, inl, inr, refl, sym, ap, ◌∙◌, arith, if◌then◌else◌}
+use Rattle.axis_sets.specs.declared.limits.TheConstants.{CHANNEL_LIMIT}
+use Rattle.std.proofs.Common.{◌≡◌, ℕ, zero, suc, ◌≤◌, ◌==◌, ◌&&◌, ◌||◌, Bool, true, false, List, length, inl, inr, refl, sym, ap, subst, ◌∙◌, arith, if◌then◌else◌}
 use Rattle.std.proofs.lemmas.Bool.{cases_Bool, eqb-true, true≢false}
+use Rattle.sync_types.proofs.FreeTakings.{NobodyRobs, goes_rob_nobody, takings_rob_nobody}
 use Rattle.sync_types.specs.Boards.{State as Doing, IsIdle, IsRunning, IsHolding, HasEnded, AtMarks, Board, among, has_ended}
 use Rattle.sync_types.specs.Boards as boards
 use Rattle.sync_types.specs.Events.{channels_in}
-use Rattle.sync_types.specs.GoingOn.{Going, goings_on, after_goings}
+use Rattle.sync_types.specs.GoingOn.{Going, after_goes, goings_on, after_goings, takes_from_standing}
 use Rattle.sync_types.specs.BoardActions.{after_own_part}
 use Rattle.sync_types.specs.declared.Step.{Step}
 use Rattle.sync_types.specs.Turns.{Move, AreOfRunning}
@@ -24,7 +26,7 @@ use Rattle.board_laws.proofs.Shown.{at_quick}
 use Rattle.board_laws.proofs.Goings.{kept_state, gone_runs, quick_in_goings, marks_kept}
 use Rattle.schedule_laws.specs.Tracked.{rows_at, rows_in, actor, goes_in, last_place, own_at, cell_at, tracked}
 use Rattle.schedule_laws.proofs.Within.{rows_within, act_up, close_up}
-use Rattle.schedule_laws.proofs.Steps.{Fresh, Here, here, mid, starts, seat_at, goings_told, actor_told, after_told}
+use Rattle.schedule_laws.proofs.Steps.{Fresh, Here, none_fresh, here, mid, starts, seat_at, goings_told, actor_told, after_told}
 use Rattle.schedule_laws.proofs.Opened.{past_in, raised_in}
 
 -- between steps
@@ -32,6 +34,7 @@ pub record Held (b : Board) (moves : List Move) (i : ℕ) : Type 0 where
   pub stands : (c k : ℕ) → is_at (own_at b moves i c).seat k ≡ true → (own_at b moves i c).marks k ≡ true
   pub raised : (c k x : ℕ) → is_at (own_at b moves i c).seat k ≡ true → (own_at b moves i c).raised k x ≡ (own_at b moves i c).past x
   pub ended : (c x : ℕ) → is_ended (own_at b moves i c).seat ≡ true → (rows_at b moves i).last (Ended c) x ≡ (rows_at b moves i).past c x
+  pub none : NobodyRobs (board_at b moves i)
 
 -- and within one
 pub record HeldIn {b : Board} {moves : List Move} {i : ℕ} (w : Here b moves i) : Type 0 where
@@ -80,6 +83,7 @@ pub rests_at : (b : Board) (moves : List Move) (i : ℕ) → Held b moves i → 
 rests_at b moves i held = record {
   inv = inv_at b moves i held;
   uncalled = λ c r. ap (λ (s : Seat). asks s (Call r)) (seat_at b moves i c) ∙ in_no_call ((board_at b moves i).state c) r;
+  takes_free = λ c. ap (λ (s : Seat). takes_from_standing (doing_of (tracked b moves i) c s)) (seat_at b moves i c) ∙ held.none c;
 }
 
 raised_now : (p k : ℕ) (old : Own) (names : ℕ → Bool) (e : Effect) → IsAct p old names e → is_at e.own.seat k ≡ true → e.own.raised k ≡ e.own.past
@@ -142,7 +146,7 @@ held_in b moves i w held =
 pub kept_told : (b : Board) (moves : List Move) (i : ℕ) (w : Here b moves i) (c : ℕ) → goes_in b moves i c ≡ false → (board_at b moves (suc i)).state c ≡ doing_of (mid w) c ((mid w).own c).seat
 kept_told b moves i w c out =
     ap (λ (a : Board). a.state c) (after_told b moves i w)
-    ∙ kept_state (mid w) (starts w) c w.parts.zones (ap (λ (gs : List Going). among (channels_in gs) c) (sym (goings_told b moves i w)) ∙ out)
+    ∙ kept_state (mid w) (starts w) c w.parts.orderly (ap (λ (gs : List Going). among (channels_in gs) c) (sym (goings_told b moves i w)) ∙ out)
 
 -- and who goes on runs
 pub runs_told : (b : Board) (moves : List Move) (i : ℕ) (w : Here b moves i) (c : ℕ) → goes_in b moves i c ≡ true → boards.is_running ((board_at b moves (suc i)).state c) ≡ true
@@ -150,7 +154,7 @@ runs_told b moves i w c on =
     let on' : among (channels_in (goings_of w)) c ≡ true = ap (λ (gs : List Going). among (channels_in gs) c) (sym (goings_told b moves i w)) ∙ on in
     let g = in_channels (goings_of w) c on' in
     ap (λ (a : Board). boards.is_running (a.state c)) (after_told b moves i w) ∙ ap (λ (d : ℕ). boards.is_running ((after_goings (board_of (mid w))).state d)) (sym g.1.1)
-    ∙ gone_runs (mid w) (starts w) g.0 w.parts.zones w.parts.called g.1.0
+    ∙ gone_runs (mid w) (starts w) g.0 w.parts.orderly w.parts.called g.1.0
 
 at_shown : (t : State) (c k : ℕ) (s : Seat) → is_at (In (doing_of t c s)) k ≡ is_at s k
 at_shown t c k (In state) = refl
@@ -173,7 +177,7 @@ held_next b moves i w held = record {
         | inr s ↦ and_left_off (ready (mid w) c) (is_at ((mid w).own c).seat k) s
         | inl y ↦ no (ap (λ (gs : List Going). among (channels_in gs) c) (goings_told b moves i w) ∙ quick_in_goings (mid w) (starts w) c y (at_quick ((mid w).own c).seat k r.1)) r.0
       ] in
-      ap (λ (a : Board). a.marks c k) (after_told b moves i w) ∙ marks_kept (mid w) c k w.parts.zones quiet ∙ held.stands c k r.1;
+      ap (λ (a : Board). a.marks c k) (after_told b moves i w) ∙ marks_kept (mid w) c k w.parts.orderly quiet ∙ held.stands c k r.1;
   raised = λ c k x on.
       let r = waits c k on in
       closed_last (course_of b moves) i (rows_in b moves i) (Raised c k) x ∙ sym (raised_in b moves i w c k x) ∙ held.raised c k x r.1 ∙ past_in b moves i w c x
@@ -181,6 +185,7 @@ held_next b moves i w held = record {
   ended = λ c x on.
       let r = stops c on in
       closed_last (course_of b moves) i (rows_in b moves i) (Ended c) x ∙ held.ended c x r.1 ∙ past_in b moves i w c x ∙ sym (closed_other (course_of b moves) i (rows_in b moves i) c x r.0);
+  none = subst (λ (a : Board). NobodyRobs a) (sym (after_told b moves i w)) (takings_rob_nobody CHANNEL_LIMIT (after_goes (board_of (mid w))) (goes_rob_nobody (board_of (mid w)) w.parts.orderly.none));
 }
   where
     and_left_off : (x y : Bool) → x ≡ false → (x && y) ≡ false
@@ -210,6 +215,7 @@ held_first b moves fresh = record {
   stands = λ c k on. no on (quiet c k);
   raised = λ c k x on. refl;
   ended = λ c x on. refl;
+  none = subst (λ (a : Board). NobodyRobs a) (sym (board_zero moves b)) (none_fresh b fresh);
 }
   where
     quiet : (c k : ℕ) → is_at (In ((board_at b moves 0).state c)) k ≡ false
@@ -218,5 +224,5 @@ held_first b moves fresh = record {
 pub held_at : (b : Board) (moves : List Move) (i : ℕ) → Fresh b → AreOfRunning b moves → i ≤ length moves → Held b moves i
 held_at b moves zero fresh run inside = held_first b moves fresh
 held_at b moves (suc i) fresh run inside =
-    let w = here b moves i fresh.zones run (omega (arith, inside)) in
+    let w = here b moves i fresh run (omega (arith, inside)) in
     held_next b moves i w (held_in b moves i w (held_at b moves i fresh run (omega (arith, inside))))

@@ -95,7 +95,7 @@ names_told (In (IsHolding (AtEnds named) line)) m d = go named
     go : (xs : List ℕ) → false ≡ list_any (same (Mark d m)) (map (λ (e : ℕ). End e) xs)
     go [] = refl
     go (x ∷ xs) = go xs
-names_told (In (IsHolding (AtAxes named) line)) m d = go named
+names_told (In (IsHolding (AtAxes from_standing named) line)) m d = go named
   where
     go : (xs : List ℕ) → false ≡ list_any (same (Mark d m)) (map (λ (e : ℕ). Axis e) xs)
     go [] = refl

@@ -1,6 +1,6 @@
 -- The machine after a clean step, field by field.
 use Rattle.std.proofs.Math.Path.{fun_ext}
-use Rattle.std.proofs.Common.{◌≡◌, ℕ, suc, ◌==◌, ◌||◌, not, Bool, true, false, List, [], ◌∷◌, ◌++◌, Option, inl, inr, refl, sym, ap, ap₂, ◌∙◌, if◌then◌else◌}
+use Rattle.std.proofs.Common.{◌≡◌, ℕ, ℤ, suc, ◌==◌, ◌||◌, not, Bool, true, false, List, [], ◌∷◌, ◌++◌, Option, inl, inr, refl, sym, ap, ap₂, ◌∙◌, if◌then◌else◌}
 use Rattle.std.proofs.lemmas.Bool.{cases_Bool, or_left, or_right, true≢false}
 use Rattle.sync_types.specs.Boards.{State as Doing, IsIdle, IsRunning, IsHolding, HasEnded, HasAlarmed, OwnedBy, FreeAt, Ownership, Board, among, channel_numbers, grant_in, owner_of, ownership_of}
 use Rattle.sync_types.specs.Boards as boards
@@ -13,7 +13,7 @@ use Rattle.order_clocks.specs.CourseOf.{course_of}
 use Rattle.order_clocks.specs.Happenings.{Raised, board_at, happening_at, going_of, of_going}
 use Rattle.order_clocks.specs.TracedRaces.{Trace, Lowered, Needed, Took, Touched, going_leaves}
 use Rattle.order_clocks.proofs.CounterLaws.{closed_last}
-use Rattle.board_laws.specs.Machine.{Need, Mark, Axis, Call, Seat, In, Called, Own, Cell, State, Effect, Clock, Span, Tenure, Place, asks, is_at, is_free, mine, ready, ready_at, axes_taken, takes, taker, grant_at_go, own_after_go, with_value_at, span_of, tenures_handed_on, span_now, next_event, cell_after_taking, settle_own, settle_axis, settle, own_after_call, cell_after_release, with_effect, put_own, put_axis, put_on, doing_of, board_of, touches, act_clock, own_after_act, effect, turn_by, go_clock}
+use Rattle.board_laws.specs.Machine.{Need, Mark, Axis, Call, Seat, In, Called, Own, Cell, State, Effect, Clock, Span, Tenure, Place, asks, is_at, is_free, mine, ready, ready_at, axes_taken, takes, taker, grant_at_go, own_after_go, with_value_at, span_of, tenures_handed_on, span_now, next_event, cell_after_taking, settle_own, settle_axis, settle, own_after_call, cell_after_release, with_effect, put_own, put_axis, put_on, doing_of, board_of, touches, act_clock, own_after_act, places_told, effect, turn_by, go_clock}
 use Rattle.board_laws.specs.Machine as machine
 use Rattle.board_laws.proofs.Basics.{no, running_ready}
 use Rattle.board_laws.proofs.Parts.{settle_goes, settle_stays, gone_seat, gone_count, gone_past, gone_raised, gone_started, touched_seat, touched_awake}
@@ -149,9 +149,9 @@ in_one {s} {r} e = ap (λ (z : Seat). out_of z) e
     out_of (In state) = state
     out_of (Called p) = s
 
-pub acted_seat : (p : ℕ) (o : Own) (marks : ℕ → Bool) (state : Doing) (names : ℕ → Bool) → (own_after_act p o marks state names).seat ≡ In state
+pub acted_seat : (p : ℕ) (o : Own) (marks : ℕ → Bool) (state : Doing) (names : ℕ → Bool) (place : ℕ → ℤ) → (own_after_act p o marks state names place).seat ≡ In state
 unfolding own_after_act
-acted_seat p o marks state names = refl
+acted_seat p o marks state names place = refl
 
 pub state_goes : (b : Board) (moves : List Move) (i : ℕ) (q : Tidy b moves i) (c : ℕ) → ready (mid q.here) c ≡ true → (board_at b moves (suc i)).state c ≡ IsRunning (grant_at_go (mid q.here) c ((mid q.here).own c))
 state_goes b moves i q c r = in_one (seat_next b moves i q c ∙ ap (λ (o : Own). o.seat) (settle_goes (mid q.here) c r) ∙ gone_seat (mid q.here) c)
@@ -160,7 +160,7 @@ pub state_stays : (b : Board) (moves : List Move) (i : ℕ) (q : Tidy b moves i)
 state_stays b moves i q c s = seat_next b moves i q c ∙ ap (λ (o : Own). o.seat) (settle_stays (mid q.here) c s)
 
 pub seat_actor : (b : Board) (moves : List Move) (i : ℕ) (w : Here b moves i) (c : ℕ) → (c == w.p) ≡ true → ((mid w).own c).seat ≡ In (part_state w c)
-seat_actor b moves i w c y = ap (λ (o : Own). o.seat) (at_actor b moves i w c y) ∙ acted_seat c (own_at b moves i c) (part_marks w c) (part_state w c) (touches w.step.action)
+seat_actor b moves i w c y = ap (λ (o : Own). o.seat) (at_actor b moves i w c y) ∙ acted_seat c (own_at b moves i c) (part_marks w c) (part_state w c) (touches w.step.action) (places_told w.step)
 
 pub running_kept : (b : Board) (moves : List Move) (i : ℕ) (w : Here b moves i) (c : ℕ) → (c == w.p) ≡ false → boards.is_running ((board_at b moves i).state c) ≡ true → (mid w).own c ≡ own_at b moves i c
 running_kept b moves i w c n on = other_own b moves i w c n ∙ touched_awake (effect (tracked b moves i) w.p w.step) w.p c (own_at b moves i c) (ap (λ (s : Seat). machine.is_idle s) (seat_at b moves i c) ∙ awake ((board_at b moves i).state c) on)

@@ -4,7 +4,7 @@ use Rattle.std.proofs.Common.{◌≡◌, ℕ, ℤ, suc, ◌&&◌, not, Bool, Lis
 use Rattle.std.specs.Option.{option_map_or}
 use Rattle.std.proofs.lemmas.Bool.{cases_Bool}
 use Rattle.sync_types.specs.Boards.{OwnedBy, FreeAt, Ownership, Board, among, channel_numbers, owner_of, ownership_of}
-use Rattle.sync_types.specs.GoingOn.{Going, first_of, free_position}
+use Rattle.sync_types.specs.GoingOn.{Going, first_of}
 use Rattle.sync_types.specs.Turns.{Move}
 use Rattle.sync_types.specs.Views.{StartView}
 use Rattle.sync_types.specs.declared.Grant.{Grant}
@@ -15,18 +15,19 @@ use Rattle.board_laws.specs.Machine.{Axis, Seat, Own, Cell, State, Effect, Clock
 use Rattle.board_laws.proofs.Parts.{axis_kept, axis_freed, settle_axis_none, settle_axis_some, cases_first}
 use Rattle.board_laws.proofs.Actions.{owner_is}
 use Rattle.board_laws.proofs.PutBoards.{frees_mine}
-use Rattle.schedule_laws.specs.Tracked.{rows_at, rows_in, part_at, actor, takes_in, tenures_in, owner_span, taken_by, tenures_at, own_at, cell_at, tracked}
+use Rattle.schedule_laws.specs.Tracked.{rows_at, rows_in, part_at, actor, takes_in, tenures_in, owner_span, taken_by, tenures_at, own_at, free_position, cell_at, tracked}
 use Rattle.schedule_laws.proofs.Steps.{Here, mid, going_none, actor_told}
 use Rattle.schedule_laws.proofs.Opened.{count_in, freed_in, frees_told}
 use Rattle.schedule_laws.proofs.GoRows.{goer}
 use Rattle.schedule_laws.proofs.NextTurn.{Tidy, goes_all, board_next, seat_next, if_true, if_false}
 use Rattle.schedule_laws.proofs.NextOwn.{lowered_next, needs_next, took_next, started_next, past_next, count_next, raised_next, log_next, grants_next, spans_next}
 
-abbrev own_made : (ℕ → Bool) → Seat → Option ℕ → List Grant → ℕ → Clock → (ℕ → Clock) → (ℕ → Span) → (ℕ → Clock) → (ℕ → ℕ) → (ℕ → ℕ → ℕ) → (ℕ → ℕ) → (ℕ → ℕ) → Own
-own_made marks seat program grants count past log spans raised lowered needs took started = record {
+abbrev own_made : (ℕ → Bool) → Seat → Option ℕ → (ℕ → ℤ) → List Grant → ℕ → Clock → (ℕ → Clock) → (ℕ → Span) → (ℕ → Clock) → (ℕ → ℕ) → (ℕ → ℕ → ℕ) → (ℕ → ℕ) → (ℕ → ℕ) → Own
+own_made marks seat program last_position grants count past log spans raised lowered needs took started = record {
   marks = marks;
   seat = seat;
   program = program;
+  last_position = last_position;
   grants = grants;
   count = count;
   past = past;
@@ -39,22 +40,23 @@ own_made marks seat program grants count past log spans raised lowered needs too
   started = started;
 }
 
-own_eq : (o u : Own) → o.marks ≡ u.marks → o.seat ≡ u.seat → o.program ≡ u.program → o.grants ≡ u.grants → o.count ≡ u.count → o.past ≡ u.past → o.log ≡ u.log → o.spans ≡ u.spans → o.raised ≡ u.raised
+own_eq : (o u : Own) → o.marks ≡ u.marks → o.seat ≡ u.seat → o.program ≡ u.program → o.last_position ≡ u.last_position → o.grants ≡ u.grants → o.count ≡ u.count → o.past ≡ u.past → o.log ≡ u.log → o.spans ≡ u.spans → o.raised ≡ u.raised
     → o.lowered ≡ u.lowered → o.needs ≡ u.needs → o.took ≡ u.took → o.started ≡ u.started → o ≡ u
-own_eq o u e1 e2 e3 e4 e5 e6 e7 e8 e9 e10 e11 e12 e13 =
-    ap (λ (z : ℕ → Bool). own_made z o.seat o.program o.grants o.count o.past o.log o.spans o.raised o.lowered o.needs o.took o.started) e1
-    ∙ ap (λ (z : Seat). own_made u.marks z o.program o.grants o.count o.past o.log o.spans o.raised o.lowered o.needs o.took o.started) e2
-    ∙ ap (λ (z : Option ℕ). own_made u.marks u.seat z o.grants o.count o.past o.log o.spans o.raised o.lowered o.needs o.took o.started) e3
-    ∙ ap (λ (z : List Grant). own_made u.marks u.seat u.program z o.count o.past o.log o.spans o.raised o.lowered o.needs o.took o.started) e4
-    ∙ ap (λ (z : ℕ). own_made u.marks u.seat u.program u.grants z o.past o.log o.spans o.raised o.lowered o.needs o.took o.started) e5
-    ∙ ap (λ (z : Clock). own_made u.marks u.seat u.program u.grants u.count z o.log o.spans o.raised o.lowered o.needs o.took o.started) e6
-    ∙ ap (λ (z : ℕ → Clock). own_made u.marks u.seat u.program u.grants u.count u.past z o.spans o.raised o.lowered o.needs o.took o.started) e7
-    ∙ ap (λ (z : ℕ → Span). own_made u.marks u.seat u.program u.grants u.count u.past u.log z o.raised o.lowered o.needs o.took o.started) e8
-    ∙ ap (λ (z : ℕ → Clock). own_made u.marks u.seat u.program u.grants u.count u.past u.log u.spans z o.lowered o.needs o.took o.started) e9
-    ∙ ap (λ (z : ℕ → ℕ). own_made u.marks u.seat u.program u.grants u.count u.past u.log u.spans u.raised z o.needs o.took o.started) e10
-    ∙ ap (λ (z : ℕ → ℕ → ℕ). own_made u.marks u.seat u.program u.grants u.count u.past u.log u.spans u.raised u.lowered z o.took o.started) e11
-    ∙ ap (λ (z : ℕ → ℕ). own_made u.marks u.seat u.program u.grants u.count u.past u.log u.spans u.raised u.lowered u.needs z o.started) e12
-    ∙ ap (λ (z : ℕ → ℕ). own_made u.marks u.seat u.program u.grants u.count u.past u.log u.spans u.raised u.lowered u.needs u.took z) e13
+own_eq o u e1 e2 e3 place e4 e5 e6 e7 e8 e9 e10 e11 e12 e13 =
+    ap (λ (z : ℕ → Bool). own_made z o.seat o.program o.last_position o.grants o.count o.past o.log o.spans o.raised o.lowered o.needs o.took o.started) e1
+    ∙ ap (λ (z : Seat). own_made u.marks z o.program o.last_position o.grants o.count o.past o.log o.spans o.raised o.lowered o.needs o.took o.started) e2
+    ∙ ap (λ (z : Option ℕ). own_made u.marks u.seat z o.last_position o.grants o.count o.past o.log o.spans o.raised o.lowered o.needs o.took o.started) e3
+    ∙ ap (λ (z : ℕ → ℤ). own_made u.marks u.seat u.program z o.grants o.count o.past o.log o.spans o.raised o.lowered o.needs o.took o.started) place
+    ∙ ap (λ (z : List Grant). own_made u.marks u.seat u.program u.last_position z o.count o.past o.log o.spans o.raised o.lowered o.needs o.took o.started) e4
+    ∙ ap (λ (z : ℕ). own_made u.marks u.seat u.program u.last_position u.grants z o.past o.log o.spans o.raised o.lowered o.needs o.took o.started) e5
+    ∙ ap (λ (z : Clock). own_made u.marks u.seat u.program u.last_position u.grants u.count z o.log o.spans o.raised o.lowered o.needs o.took o.started) e6
+    ∙ ap (λ (z : ℕ → Clock). own_made u.marks u.seat u.program u.last_position u.grants u.count u.past z o.spans o.raised o.lowered o.needs o.took o.started) e7
+    ∙ ap (λ (z : ℕ → Span). own_made u.marks u.seat u.program u.last_position u.grants u.count u.past u.log z o.raised o.lowered o.needs o.took o.started) e8
+    ∙ ap (λ (z : ℕ → Clock). own_made u.marks u.seat u.program u.last_position u.grants u.count u.past u.log u.spans z o.lowered o.needs o.took o.started) e9
+    ∙ ap (λ (z : ℕ → ℕ). own_made u.marks u.seat u.program u.last_position u.grants u.count u.past u.log u.spans u.raised z o.needs o.took o.started) e10
+    ∙ ap (λ (z : ℕ → ℕ → ℕ). own_made u.marks u.seat u.program u.last_position u.grants u.count u.past u.log u.spans u.raised u.lowered z o.took o.started) e11
+    ∙ ap (λ (z : ℕ → ℕ). own_made u.marks u.seat u.program u.last_position u.grants u.count u.past u.log u.spans u.raised u.lowered u.needs z o.started) e12
+    ∙ ap (λ (z : ℕ → ℕ). own_made u.marks u.seat u.program u.last_position u.grants u.count u.past u.log u.spans u.raised u.lowered u.needs u.took z) e13
 
 own_next : (b : Board) (moves : List Move) (i : ℕ) (q : Tidy b moves i) (c : ℕ) → own_at b moves (suc i) c ≡ settle_own (mid q.here) c
 unfolding own_at
@@ -62,6 +64,7 @@ own_next b moves i q c = own_eq (own_at b moves (suc i) c) (settle_own (mid q.he
     (ap (λ (a : Board). a.marks c) (board_next b moves i q))
     (seat_next b moves i q c)
     (ap (λ (a : Board). a.program c) (board_next b moves i q))
+    (ap (λ (a : Board). a.last_position c) (board_next b moves i q))
     (grants_next b moves i q c)
     (count_next b moves i q c)
     (fun_ext λ x. past_next b moves i q c x)

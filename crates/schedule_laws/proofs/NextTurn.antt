@@ -1,6 +1,6 @@
 -- Where a step is clean, the run after it is the machine's turn.
 use Rattle.std.proofs.Math.Path.{fun_ext}
-use Rattle.std.proofs.Common.{◌≡◌, ℕ, suc, ◌==◌, ◌&&◌, not, Bool, true, false, List, ◌++◌, inl, inr, refl, sym, ap, ◌∙◌, if◌then◌else◌}
+use Rattle.std.proofs.Common.{◌≡◌, ℕ, ℤ, suc, ◌==◌, ◌&&◌, not, Bool, true, false, List, ◌++◌, inl, inr, refl, sym, ap, ◌∙◌, if◌then◌else◌}
 use Rattle.std.proofs.lemmas.Bool.{cases_Bool, eqb-true}
 use Rattle.sync_types.specs.BoardActions.{after_own_part}
 use Rattle.sync_types.specs.Boards.{State as Doing, Board, among, grant_in}
@@ -14,7 +14,7 @@ use Rattle.order_clocks.specs.CourseOf.{course_of}
 use Rattle.order_clocks.specs.Happenings.{Happening, board_at, happening_of, happening_at}
 use Rattle.order_clocks.specs.TracedRaces.{Trace, Lowered, Needed, Took, Touched, act_leaves}
 use Rattle.order_clocks.proofs.CounterLaws.{closed_goer, closed_other}
-use Rattle.board_laws.specs.Machine.{Need, Mark, Axis, Call, Seat, In, Called, Own, Cell, State, Effect, Clock, Span, Tenure, Place, asks, is_at, is_free, mine, ready, axes_taken, takes, taker, grant_at_go, own_after_go, with_value_at, span_of, tenures_handed_on, span_now, next_event, cell_after_taking, settle_own, settle_axis, settle, own_after_call, cell_after_release, with_effect, put_own, put_axis, put_on, doing_of, board_of, touches, act_clock, own_after_act, effect, turn_by, go_clock}
+use Rattle.board_laws.specs.Machine.{Need, Mark, Axis, Call, Seat, In, Called, Own, Cell, State, Effect, Clock, Span, Tenure, Place, asks, is_at, is_free, mine, ready, axes_taken, takes, taker, grant_at_go, own_after_go, with_value_at, span_of, tenures_handed_on, span_now, next_event, cell_after_taking, settle_own, settle_axis, settle, own_after_call, cell_after_release, with_effect, put_own, put_axis, put_on, doing_of, board_of, touches, act_clock, own_after_act, places_told, effect, turn_by, go_clock}
 use Rattle.board_laws.specs.Machine as machine
 use Rattle.board_laws.specs.Clean.{GoesClean, Inv}
 use Rattle.board_laws.proofs.Basics.{no, called_self, clock_own}
@@ -39,20 +39,20 @@ pub record Tidy (b : Board) (moves : List Move) (i : ℕ) : Type 0 where
 
 pub goes_all : (b : Board) (moves : List Move) (i : ℕ) (q : Tidy b moves i) (c : ℕ) → goes_in b moves i c ≡ ready (mid q.here) c
 goes_all b moves i q c = elim (cases_Bool (ready (mid q.here) c)) [
-  | inl r ↦ ap (λ (gs : List Going). among (channels_in gs) c) (goings_told b moves i q.here) ∙ all_in (mid q.here) (starts q.here) c q.clean q.here.parts.zones q.here.parts.over q.here.parts.called r ∙ sym r
+  | inl r ↦ ap (λ (gs : List Going). among (channels_in gs) c) (goings_told b moves i q.here) ∙ all_in (mid q.here) (starts q.here) c q.clean q.here.parts.orderly q.here.parts.over q.here.parts.called r ∙ sym r
   | inr s ↦ elim (cases_Bool (goes_in b moves i c)) [ inl on ↦ no (goer b moves i q.here c on).goes s | inr off ↦ off ∙ sym s ]
 ]
 
 -- the board after the step
 pub board_next : (b : Board) (moves : List Move) (i : ℕ) (q : Tidy b moves i) → board_at b moves (suc i) ≡ board_of (settle (mid q.here))
-board_next b moves i q = after_told b moves i q.here ∙ settled_board (mid q.here) q.clean q.here.parts.zones q.here.parts.over
+board_next b moves i q = after_told b moves i q.here ∙ settled_board (mid q.here) q.clean q.here.parts.orderly q.here.parts.over
 
 pub shown_in : (t : State) (c : ℕ) (s : Seat) → ((r : ℕ) → asks s (Call r) ≡ false) → In (doing_of t c s) ≡ s
 shown_in t c (In state) off = refl
 shown_in t c (Called p) off = no (called_self p) (off p)
 
 pub seat_next : (b : Board) (moves : List Move) (i : ℕ) (q : Tidy b moves i) (c : ℕ) → In ((board_at b moves (suc i)).state c) ≡ (settle_own (mid q.here) c).seat
-seat_next b moves i q c = ap (λ (a : Board). In (a.state c)) (board_next b moves i q) ∙ shown_in (settle (mid q.here)) c (settle_own (mid q.here) c).seat (λ r. (settle_rests (mid q.here) q.inv).uncalled c r)
+seat_next b moves i q c = ap (λ (a : Board). In (a.state c)) (board_next b moves i q) ∙ shown_in (settle (mid q.here)) c (settle_own (mid q.here) c).seat (λ r. (settle_rests (mid q.here) q.inv q.here.parts.orderly.none).uncalled c r)
 
 -- counters
 pub past_goes : (b : Board) (moves : List Move) (i : ℕ) (q : Tidy b moves i) (c x : ℕ) → goes_in b moves i c ≡ true → (rows_at b moves (suc i)).past c x ≡ go_clock (mid q.here) c x
@@ -68,16 +68,16 @@ pub count_stays : (b : Board) (moves : List Move) (i : ℕ) (q : Tidy b moves i)
 count_stays b moves i q c off = closed_other (course_of b moves) i (rows_in b moves i) c c off ∙ sym (count_in b moves i q.here c)
 
 -- of the actor and of others within the step
-pub acted_is : (t : State) (p : ℕ) (step : Step) → (effect t p step).own ≡ own_after_act p (t.own p) ((after_own_part (board_of t) p step).marks p) ((after_own_part (board_of t) p step).state p) (touches step.action)
+pub acted_is : (t : State) (p : ℕ) (step : Step) → (effect t p step).own ≡ own_after_act p (t.own p) ((after_own_part (board_of t) p step).marks p) ((after_own_part (board_of t) p step).state p) (touches step.action) (places_told step)
 unfolding effect
 acted_is t p step = refl
 
 pub at_actor : (b : Board) (moves : List Move) (i : ℕ) (w : Here b moves i) (c : ℕ) → (c == w.p) ≡ true
-    → (mid w).own c ≡ own_after_act c (own_at b moves i c) ((after_own_part (board_of (tracked b moves i)) w.p w.step).marks c) ((after_own_part (board_of (tracked b moves i)) w.p w.step).state c) (touches w.step.action)
+    → (mid w).own c ≡ own_after_act c (own_at b moves i c) ((after_own_part (board_of (tracked b moves i)) w.p w.step).marks c) ((after_own_part (board_of (tracked b moves i)) w.p w.step).state c) (touches w.step.action) (places_told w.step)
 at_actor b moves i w c y =
     let s : c ≡ w.p = eqb-true c w.p y in
     ap (λ (z : ℕ). (mid w).own z) s ∙ put_same (tracked b moves i) w.p (effect (tracked b moves i) w.p w.step) ∙ acted_is (tracked b moves i) w.p w.step
-    ∙ ap (λ (z : ℕ). own_after_act z (own_at b moves i z) ((after_own_part (board_of (tracked b moves i)) w.p w.step).marks z) ((after_own_part (board_of (tracked b moves i)) w.p w.step).state z) (touches w.step.action)) (sym s)
+    ∙ ap (λ (z : ℕ). own_after_act z (own_at b moves i z) ((after_own_part (board_of (tracked b moves i)) w.p w.step).marks z) ((after_own_part (board_of (tracked b moves i)) w.p w.step).state z) (touches w.step.action) (places_told w.step)) (sym s)
 
 -- a field that INIT and START leave alone
 pub touched_grants : (e : Effect) (p c : ℕ) (o : Own) → (own_after_call e p c o).grants ≡ o.grants
@@ -96,37 +96,37 @@ pub other_own : (b : Board) (moves : List Move) (i : ℕ) (w : Here b moves i) (
 other_own b moves i w c n = put_other (tracked b moves i) w.p (effect (tracked b moves i) w.p w.step) c n
 
 -- fields by their definitions
-pub acted_grants : (p : ℕ) (o : Own) (marks : ℕ → Bool) (state : Doing) (names : ℕ → Bool) → (own_after_act p o marks state names).grants ≡ o.grants ++ as_list (grant_in state)
+pub acted_grants : (p : ℕ) (o : Own) (marks : ℕ → Bool) (state : Doing) (names : ℕ → Bool) (place : ℕ → ℤ) → (own_after_act p o marks state names place).grants ≡ o.grants ++ as_list (grant_in state)
 unfolding own_after_act
-acted_grants p o marks state names = refl
+acted_grants p o marks state names place = refl
 
-pub acted_log : (p : ℕ) (o : Own) (marks : ℕ → Bool) (state : Doing) (names : ℕ → Bool) → (own_after_act p o marks state names).log ≡ with_value_at (suc o.count) (act_clock p o) o.log
+pub acted_log : (p : ℕ) (o : Own) (marks : ℕ → Bool) (state : Doing) (names : ℕ → Bool) (place : ℕ → ℤ) → (own_after_act p o marks state names place).log ≡ with_value_at (suc o.count) (act_clock p o) o.log
 unfolding own_after_act
-acted_log p o marks state names = refl
+acted_log p o marks state names place = refl
 
-pub acted_spans : (p : ℕ) (o : Own) (marks : ℕ → Bool) (state : Doing) (names : ℕ → Bool) → (own_after_act p o marks state names).spans ≡ with_value_at (suc o.count) (span_of state (o.grants ++ as_list (grant_in state))) o.spans
+pub acted_spans : (p : ℕ) (o : Own) (marks : ℕ → Bool) (state : Doing) (names : ℕ → Bool) (place : ℕ → ℤ) → (own_after_act p o marks state names place).spans ≡ with_value_at (suc o.count) (span_of state (o.grants ++ as_list (grant_in state))) o.spans
 unfolding own_after_act
-acted_spans p o marks state names = refl
+acted_spans p o marks state names place = refl
 
-pub acted_count : (p : ℕ) (o : Own) (marks : ℕ → Bool) (state : Doing) (names : ℕ → Bool) → (own_after_act p o marks state names).count ≡ suc o.count
+pub acted_count : (p : ℕ) (o : Own) (marks : ℕ → Bool) (state : Doing) (names : ℕ → Bool) (place : ℕ → ℤ) → (own_after_act p o marks state names place).count ≡ suc o.count
 unfolding own_after_act
-acted_count p o marks state names = refl
+acted_count p o marks state names place = refl
 
-pub acted_past : (p : ℕ) (o : Own) (marks : ℕ → Bool) (state : Doing) (names : ℕ → Bool) → (own_after_act p o marks state names).past ≡ act_clock p o
+pub acted_past : (p : ℕ) (o : Own) (marks : ℕ → Bool) (state : Doing) (names : ℕ → Bool) (place : ℕ → ℤ) → (own_after_act p o marks state names place).past ≡ act_clock p o
 unfolding own_after_act
-acted_past p o marks state names = refl
+acted_past p o marks state names place = refl
 
-pub acted_lowered : (p : ℕ) (o : Own) (marks : ℕ → Bool) (state : Doing) (names : ℕ → Bool) (k : ℕ) → (own_after_act p o marks state names).lowered k ≡ (if o.marks k && not (marks k) then suc o.count else o.lowered k)
+pub acted_lowered : (p : ℕ) (o : Own) (marks : ℕ → Bool) (state : Doing) (names : ℕ → Bool) (place : ℕ → ℤ) (k : ℕ) → (own_after_act p o marks state names place).lowered k ≡ (if o.marks k && not (marks k) then suc o.count else o.lowered k)
 unfolding own_after_act
-acted_lowered p o marks state names k = refl
+acted_lowered p o marks state names place k = refl
 
-pub acted_started : (p : ℕ) (o : Own) (marks : ℕ → Bool) (state : Doing) (names : ℕ → Bool) (y : ℕ) → (own_after_act p o marks state names).started y ≡ (if names y then suc o.count else o.started y)
+pub acted_started : (p : ℕ) (o : Own) (marks : ℕ → Bool) (state : Doing) (names : ℕ → Bool) (place : ℕ → ℤ) (y : ℕ) → (own_after_act p o marks state names place).started y ≡ (if names y then suc o.count else o.started y)
 unfolding own_after_act
-acted_started p o marks state names y = refl
+acted_started p o marks state names place y = refl
 
-pub acted_needs : (p : ℕ) (o : Own) (marks : ℕ → Bool) (state : Doing) (names : ℕ → Bool) → ((own_after_act p o marks state names).needs ≡ o.needs) × ((own_after_act p o marks state names).took ≡ o.took)
+pub acted_needs : (p : ℕ) (o : Own) (marks : ℕ → Bool) (state : Doing) (names : ℕ → Bool) (place : ℕ → ℤ) → ((own_after_act p o marks state names place).needs ≡ o.needs) × ((own_after_act p o marks state names place).took ≡ o.took)
 unfolding own_after_act
-acted_needs p o marks state names = (refl, refl)
+acted_needs p o marks state names place = (refl, refl)
 
 pub log_at : (b : Board) (moves : List Move) (i c : ℕ) → (own_at b moves i c).log ≡ clocks_at b moves i c
 unfolding own_at
@@ -156,13 +156,13 @@ abbrev pub part_state : {b : Board} {moves : List Move} {i : ℕ} → Here b mov
 part_state {b} {moves} {i} w = (after_own_part (board_of (tracked b moves i)) w.p w.step).state
 
 abbrev pub actor_own : {b : Board} {moves : List Move} {i : ℕ} → Here b moves i → ℕ → Own
-actor_own {b} {moves} {i} w c = own_after_act c (own_at b moves i c) (part_marks w c) (part_state w c) (touches w.step.action)
+actor_own {b} {moves} {i} w c = own_after_act c (own_at b moves i c) (part_marks w c) (part_state w c) (touches w.step.action) (places_told w.step)
 
 pub count_actor : (b : Board) (moves : List Move) (i : ℕ) (w : Here b moves i) (c : ℕ) → (c == w.p) ≡ true → suc (own_at b moves i c).count ≡ (rows_in b moves i).past c c
-count_actor b moves i w c y = sym (ap (λ (o : Own). o.count) (at_actor b moves i w c y) ∙ acted_count c (own_at b moves i c) (part_marks w c) (part_state w c) (touches w.step.action)) ∙ count_in b moves i w c
+count_actor b moves i w c y = sym (ap (λ (o : Own). o.count) (at_actor b moves i w c y) ∙ acted_count c (own_at b moves i c) (part_marks w c) (part_state w c) (touches w.step.action) (places_told w.step)) ∙ count_in b moves i w c
 
 pub past_actor : (b : Board) (moves : List Move) (i : ℕ) (w : Here b moves i) (c : ℕ) → (c == w.p) ≡ true → act_clock c (own_at b moves i c) ≡ (rows_in b moves i).past c
-past_actor b moves i w c y = sym (ap (λ (o : Own). o.past) (at_actor b moves i w c y) ∙ acted_past c (own_at b moves i c) (part_marks w c) (part_state w c) (touches w.step.action)) ∙ fun_ext (λ x. past_in b moves i w c x)
+past_actor b moves i w c y = sym (ap (λ (o : Own). o.past) (at_actor b moves i w c y) ∙ acted_past c (own_at b moves i c) (part_marks w c) (part_state w c) (touches w.step.action) (places_told w.step)) ∙ fun_ext (λ x. past_in b moves i w c x)
 
 -- the clocks by places, within the step and after it
 pub clocks_mid : (b : Board) (moves : List Move) (i : ℕ) (w : Here b moves i) (c : ℕ) → clocks_in b moves i (clocks_at b moves i c) c ≡ ((mid w).own c).log
@@ -171,7 +171,7 @@ clocks_mid b moves i w c = elim (cases_Bool (c == w.p)) [
       if_true (c == actor b moves i) (with_value_at ((rows_in b moves i).past c c) ((rows_in b moves i).past c) (clocks_at b moves i c)) (clocks_at b moves i c) (acts_here b moves i w c ∙ y)
       ∙ ap (λ (n : ℕ). with_value_at n ((rows_in b moves i).past c) (clocks_at b moves i c)) (sym (count_actor b moves i w c y)) ∙ ap (λ (f : Clock). with_value_at (suc (own_at b moves i c).count) f (clocks_at b moves i c)) (sym (past_actor b moves i w c y))
       ∙ ap (λ (old : ℕ → Clock). with_value_at (suc (own_at b moves i c).count) (act_clock c (own_at b moves i c)) old) (sym (log_at b moves i c))
-      ∙ sym (ap (λ (o : Own). o.log) (at_actor b moves i w c y) ∙ acted_log c (own_at b moves i c) (part_marks w c) (part_state w c) (touches w.step.action))
+      ∙ sym (ap (λ (o : Own). o.log) (at_actor b moves i w c y) ∙ acted_log c (own_at b moves i c) (part_marks w c) (part_state w c) (touches w.step.action) (places_told w.step))
   | inr n ↦
       if_false (c == actor b moves i) (with_value_at ((rows_in b moves i).past c c) ((rows_in b moves i).past c) (clocks_at b moves i c)) (clocks_at b moves i c) (acts_here b moves i w c ∙ n)
       ∙ sym (ap (λ (o : Own). o.log) (other_own b moves i w c n) ∙ touched_log (effect (tracked b moves i) w.p w.step) w.p c (own_at b moves i c) ∙ log_at b moves i c)
@@ -181,7 +181,7 @@ clocks_mid b moves i w c = elim (cases_Bool (c == w.p)) [
 pub grants_mid : (b : Board) (moves : List Move) (i : ℕ) (w : Here b moves i) (c : ℕ) → (c == w.p) ≡ true → grants_at b moves i c ++ as_list (grant_in (part_state w c)) ≡ ((mid w).own c).grants
 grants_mid b moves i w c y =
     ap (λ (gs : List Grant). gs ++ as_list (grant_in (part_state w c))) (sym (grants_own b moves i c))
-    ∙ sym (ap (λ (o : Own). o.grants) (at_actor b moves i w c y) ∙ acted_grants c (own_at b moves i c) (part_marks w c) (part_state w c) (touches w.step.action))
+    ∙ sym (ap (λ (o : Own). o.grants) (at_actor b moves i w c y) ∙ acted_grants c (own_at b moves i c) (part_marks w c) (part_state w c) (touches w.step.action) (places_told w.step))
 
 pub grants_other : (b : Board) (moves : List Move) (i : ℕ) (w : Here b moves i) (c : ℕ) → (c == w.p) ≡ false → ((mid w).own c).grants ≡ grants_at b moves i c
 grants_other b moves i w c n = ap (λ (o : Own). o.grants) (other_own b moves i w c n) ∙ touched_grants (effect (tracked b moves i) w.p w.step) w.p c (own_at b moves i c) ∙ grants_own b moves i c
@@ -195,7 +195,7 @@ spans_mid b moves i w c = elim (cases_Bool (c == w.p)) [
       ∙ ap (λ (s : Doing). with_value_at (suc (own_at b moves i c).count) (span_of s (grants_at b moves i c ++ as_list (grant_in s))) (spans_at b moves i c)) part
       ∙ ap (λ (gs : List Grant). with_value_at (suc (own_at b moves i c).count) (span_of (part_state w c) (gs ++ as_list (grant_in (part_state w c)))) (spans_at b moves i c)) (sym (grants_own b moves i c))
       ∙ ap (λ (old : ℕ → Span). with_value_at (suc (own_at b moves i c).count) (span_of (part_state w c) ((own_at b moves i c).grants ++ as_list (grant_in (part_state w c)))) old) (sym (spans_own b moves i c))
-      ∙ sym (ap (λ (o : Own). o.spans) (at_actor b moves i w c y) ∙ acted_spans c (own_at b moves i c) (part_marks w c) (part_state w c) (touches w.step.action))
+      ∙ sym (ap (λ (o : Own). o.spans) (at_actor b moves i w c y) ∙ acted_spans c (own_at b moves i c) (part_marks w c) (part_state w c) (touches w.step.action) (places_told w.step))
   | inr n ↦
       if_false (c == actor b moves i) (with_value_at ((rows_in b moves i).past c c) (span_of ((part_at b moves i).state c) (grants_at b moves i c ++ as_list (grant_in ((part_at b moves i).state c)))) (spans_at b moves i c)) (spans_at b moves i c) (acts_here b moves i w c ∙ n)
       ∙ sym (ap (λ (o : Own). o.spans) (other_own b moves i w c n) ∙ touched_spans (effect (tracked b moves i) w.p w.step) w.p c (own_at b moves i c) ∙ spans_own b moves i c)
@@ -248,7 +248,7 @@ lowered_mid b moves i w c k = elim (cases_Bool (c == w.p)) [
       ap (λ (z : Bool). z && ((own_at b moves i w.p).marks k && not (part_marks w w.p k))) y ∙ ap (λ (z : ℕ). (own_at b moves i z).marks k && not (part_marks w z k)) (sym s) in
       mid_actor b moves i w c (Lowered c k) test y leaves
       ∙ picked test (suc (own_at b moves i c).count) (last_place b moves i c (Lowered c k)) (suc (own_at b moves i c).count) ((own_at b moves i c).lowered k) refl (sym (lowered_own b moves i c k))
-      ∙ sym (ap (λ (o : Own). o.lowered k) (at_actor b moves i w c y) ∙ acted_lowered c (own_at b moves i c) (part_marks w c) (part_state w c) (touches w.step.action) k)
+      ∙ sym (ap (λ (o : Own). o.lowered k) (at_actor b moves i w c y) ∙ acted_lowered c (own_at b moves i c) (part_marks w c) (part_state w c) (touches w.step.action) (places_told w.step) k)
   | inr n ↦
       mid_other b moves i w c (Lowered c k) n
       ∙ sym (ap (λ (o : Own). o.lowered k) (other_own b moves i w c n) ∙ ap (λ (f : ℕ → ℕ). f k) (touched_kept (effect (tracked b moves i) w.p w.step) w.p c (own_at b moves i c)).lowered ∙ lowered_own b moves i c k)
@@ -258,7 +258,7 @@ pub needs_mid : (b : Board) (moves : List Move) (i : ℕ) (w : Here b moves i) (
 needs_mid b moves i w c d k = elim (cases_Bool (c == w.p)) [
   | inl y ↦
       mid_actor b moves i w c (Needed d k) false y refl ∙ sym (needs_own b moves i c d k)
-      ∙ sym (ap (λ (o : Own). o.needs d k) (at_actor b moves i w c y) ∙ ap (λ (f : ℕ → ℕ → ℕ). f d k) (acted_needs c (own_at b moves i c) (part_marks w c) (part_state w c) (touches w.step.action)).0)
+      ∙ sym (ap (λ (o : Own). o.needs d k) (at_actor b moves i w c y) ∙ ap (λ (f : ℕ → ℕ → ℕ). f d k) (acted_needs c (own_at b moves i c) (part_marks w c) (part_state w c) (touches w.step.action) (places_told w.step)).0)
   | inr n ↦
       mid_other b moves i w c (Needed d k) n
       ∙ sym (ap (λ (o : Own). o.needs d k) (other_own b moves i w c n) ∙ ap (λ (f : ℕ → ℕ → ℕ). f d k) (touched_kept (effect (tracked b moves i) w.p w.step) w.p c (own_at b moves i c)).needs ∙ needs_own b moves i c d k)
@@ -268,7 +268,7 @@ pub took_mid : (b : Board) (moves : List Move) (i : ℕ) (w : Here b moves i) (c
 took_mid b moves i w c x = elim (cases_Bool (c == w.p)) [
   | inl y ↦
       mid_actor b moves i w c (Took x) false y refl ∙ sym (took_own b moves i c x)
-      ∙ sym (ap (λ (o : Own). o.took x) (at_actor b moves i w c y) ∙ ap (λ (f : ℕ → ℕ). f x) (acted_needs c (own_at b moves i c) (part_marks w c) (part_state w c) (touches w.step.action)).1)
+      ∙ sym (ap (λ (o : Own). o.took x) (at_actor b moves i w c y) ∙ ap (λ (f : ℕ → ℕ). f x) (acted_needs c (own_at b moves i c) (part_marks w c) (part_state w c) (touches w.step.action) (places_told w.step)).1)
   | inr n ↦
       mid_other b moves i w c (Took x) n
       ∙ sym (ap (λ (o : Own). o.took x) (other_own b moves i w c n) ∙ ap (λ (f : ℕ → ℕ). f x) (touched_kept (effect (tracked b moves i) w.p w.step) w.p c (own_at b moves i c)).took ∙ took_own b moves i c x)
@@ -279,7 +279,7 @@ started_mid b moves i w c z = elim (cases_Bool (c == w.p)) [
   | inl y ↦
       mid_actor b moves i w c (Touched z) (touches w.step.action z) y (touched_told w.step.action z)
       ∙ picked (touches w.step.action z) (suc (own_at b moves i c).count) (last_place b moves i c (Touched z)) (suc (own_at b moves i c).count) ((own_at b moves i c).started z) refl (sym (started_own b moves i c z))
-      ∙ sym (ap (λ (o : Own). o.started z) (at_actor b moves i w c y) ∙ acted_started c (own_at b moves i c) (part_marks w c) (part_state w c) (touches w.step.action) z)
+      ∙ sym (ap (λ (o : Own). o.started z) (at_actor b moves i w c y) ∙ acted_started c (own_at b moves i c) (part_marks w c) (part_state w c) (touches w.step.action) (places_told w.step) z)
   | inr n ↦
       mid_other b moves i w c (Touched z) n
       ∙ sym (ap (λ (o : Own). o.started z) (other_own b moves i w c n) ∙ ap (λ (f : ℕ → ℕ). f z) (touched_kept (effect (tracked b moves i) w.p w.step) w.p c (own_at b moves i c)).started ∙ started_own b moves i c z)

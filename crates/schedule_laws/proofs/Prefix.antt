@@ -4,7 +4,7 @@ use Rattle.std.proofs.Common.{◌≡◌, ℕ, zero, suc, ◌≤◌, ◌<◌, ◌
 use Rattle.std.specs.Option.{option_map_or}
 use Rattle.sync_types.specs.Boards.{Board, among, channel_numbers, grant_in, owner_of}
 use Rattle.sync_types.specs.Events.{channels_in, pairs_of}
-use Rattle.sync_types.specs.GoingOn.{first_of, free_position}
+use Rattle.sync_types.specs.GoingOn.{first_of}
 use Rattle.sync_types.specs.Runs.{as_list, gets_a_grant}
 use Rattle.sync_types.specs.Turns.{Move, after_step}
 use Rattle.sync_types.specs.declared.Grant.{Grant}
@@ -15,7 +15,7 @@ use Rattle.order_clocks.specs.Groups.{labels}
 use Rattle.order_clocks.specs.Happenings.{Happening, Raised, Freed, board_at, happening_at, gives, going_of, of_going, rests_on}
 use Rattle.order_clocks.specs.TracedRaces.{Trace, Lowered, Needed, Took, Touched, act_leaves, going_leaves}
 use Rattle.board_laws.specs.Machine.{In, Own, Cell, State, Clock, Span, Tenure, with_value_at, span_of, tenures_handed_on}
-use Rattle.schedule_laws.specs.Tracked.{rows_at, rows_in, part_at, last_place, grants_at, clocks_at, spans_at, takes_in, tenures_in, taken_by, tenures_at, own_at, cell_at, tracked}
+use Rattle.schedule_laws.specs.Tracked.{rows_at, rows_in, part_at, last_place, grants_at, clocks_at, spans_at, takes_in, tenures_in, taken_by, tenures_at, own_at, free_position, cell_at, tracked}
 
 -- the boards and happenings of the first steps
 pub board_kept : (b : Board) (ms xs ys : List Move) (i : ℕ) → i ≤ length ms → board_at b (ms ++ xs) i ≡ board_at b (ms ++ ys) i
@@ -161,6 +161,7 @@ own_by board rows place grants clocks spans c = record {
   marks = board.marks c;
   seat = In (board.state c);
   program = board.program c;
+  last_position = board.last_position c;
   grants = grants c;
   count = rows.past c c;
   past = rows.past c;

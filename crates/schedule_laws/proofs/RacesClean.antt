@@ -2,7 +2,7 @@
 use Rattle.std.proofs.Common.{◌≡◌, ℕ, suc, ◌≤◌, ◌<◌, ◌==◌, ◌&&◌, ◌||◌, not, Bool, true, false, List, length, inl, inr, refl, sym, ap, ap₂, subst, ◌∙◌, arith}
 use Rattle.std.proofs.lemmas.Bool.{cases_Bool, eqb-true, eq-eqb, and_from, true≢false}
 use Rattle.sync_types.specs.BoardActions.{after_own_part}
-use Rattle.sync_types.specs.Boards.{State as Doing, IsIdle, IsRunning, IsHolding, HasEnded, HasAlarmed, OwnedBy, AtMarks, AtEnds, AtAxes, Ownership, Board, among, owns}
+use Rattle.sync_types.specs.Boards.{State as Doing, IsHolding, OwnedBy, AtMarks, AtAxes, Board, among, owns}
 use Rattle.sync_types.specs.GoingOn.{Going}
 use Rattle.sync_types.specs.Turns.{Move}
 use Rattle.sync_types.specs.declared.Step.{Step}
@@ -217,13 +217,20 @@ needs_mid b moves i w c d k = elim (cases_Bool (c == w.p)) [
 ]
 
 -- who asks for axes and did not take them still asks
-asking_stays : (b : Board) (moves : List Move) (i : ℕ) (w : Here b moves i) (d x : ℕ) → asks ((mid w).own d).seat (Axis x) ≡ true → went (mid w) d ≡ false → (z : List ℕ) × ((line : ℕ) × (((happening_at b moves i).after d ≡ IsHolding (AtAxes z) line) × (among z x ≡ true)))
+record StillAsking (b : Board) (moves : List Move) (i d x : ℕ) : Type 0 where
+  pub from_standing : Bool
+  pub axes : List ℕ
+  pub line : ℕ
+  pub holds : (happening_at b moves i).after d ≡ IsHolding (AtAxes from_standing axes) line
+  pub names : among axes x ≡ true
+
+asking_stays : (b : Board) (moves : List Move) (i : ℕ) (w : Here b moves i) (d x : ℕ) → asks ((mid w).own d).seat (Axis x) ≡ true → went (mid w) d ≡ false → StillAsking b moves i d x
 asking_stays b moves i w d x y out =
     let get = axis_getting ((mid w).own d).seat x y in
     let s = asks_axis_in (mid w) d x y in
     let z = axis_state s.state x s.asks in
-    let f : (board_at b moves (suc i)).state d ≡ doing_of (mid w) d ((mid w).own d).seat = ap (λ (a : Board). a.state d) (after_told b moves i w) ∙ (takings_of (mid w) w.parts.zones).kept d out ∙ getting_stays (mid w) d get in
-    (z.axes, (z.line, (after_at b moves i w d ∙ f ∙ ap (λ (v : Seat). doing_of (mid w) d v) s.seat ∙ z.state, z.names)))
+    let f : (board_at b moves (suc i)).state d ≡ doing_of (mid w) d ((mid w).own d).seat = ap (λ (a : Board). a.state d) (after_told b moves i w) ∙ (takings_of (mid w) w.parts.orderly).kept d out ∙ getting_stays (mid w) d get in
+    record { from_standing = z.from_standing; axes = z.axes; line = z.line; holds = after_at b moves i w d ∙ f ∙ ap (λ (v : Seat). doing_of (mid w) d v) s.seat ∙ z.state; names = z.names }
 
 -- one that took is among those that go on
 took_there : (b : Board) (moves : List Move) (i : ℕ) (w : Here b moves i) (g : Going) → IsOf g (taken_in (mid w)).goings → IsOf g (happening_at b moves i).goings
@@ -232,8 +239,8 @@ took_there b moves i w g on = subst (λ (gs : List Going). IsOf g gs) (sym (goin
 still_asks : (b : Board) (moves : List Move) (i : ℕ) (q : Quiet b moves i) (g : Going) (d x : ℕ) → IsOf g (taken_in (mid q.here)).goings → among g.took x ≡ true → (d == g.channel) ≡ false → asks ((mid q.here).own d).seat (Axis x) ≡ true → went (mid q.here) d ≡ false → ⊥
 still_asks b moves i q g d x on took other y out =
     let z = asking_stays b moves i q.here d x y out in
-    q.none (record { case = letter_f; first = (g.channel, line_in g.from); second = (d, z.1.0) })
-    (StillAsks g d x z.1.0 z.0 (took_there b moves i q.here g on) took other z.1.1.0 z.1.1.1 refl)
+    q.none (record { case = letter_f; first = (g.channel, line_in g.from); second = (d, z.line) })
+    (StillAsks g d x z.line z.from_standing z.axes (took_there b moves i q.here g on) took other z.holds z.names refl)
 
 axes_quiet : (b : Board) (moves : List Move) (i : ℕ) (q : Quiet b moves i) (c d x : ℕ) → ready (mid q.here) c ≡ true → asks ((mid q.here).own c).seat (Axis x) ≡ true → mine (mid q.here) c x ≡ false → (d == c) ≡ false → asks ((mid q.here).own d).seat (Axis x) ≡ false
 axes_quiet b moves i q c d x r y off n = elim (cases_Bool (asks ((mid q.here).own d).seat (Axis x))) [
@@ -241,7 +248,7 @@ axes_quiet b moves i q c d x r y off n = elim (cases_Bool (asks ((mid q.here).ow
   | inl on ↦
       let w = q.here in
       let t : State = mid w in
-      let all = takings_of t w.parts.zones in
+      let all = takings_of t w.parts.orderly in
       let get_c = axis_getting (t.own c).seat x y in
       let get_d = axis_getting (t.own d).seat x on in
       elim (cases_Bool (went t c)) [
@@ -261,7 +268,7 @@ axes_quiet b moves i q c d x r y off n = elim (cases_Bool (asks ((mid q.here).ow
             ] in
             absurd (still_asks b moves i q g.0 d x g.1.0 took other on out)
         | inr stays ↦
-            let z = left_out t c w.parts.zones w.parts.over r get_c stays in
+            let z = left_out t c w.parts.orderly w.parts.over r get_c stays in
             absurd (still_asks b moves i q z.going c z.axis z.took z.taken (eqb_turned c z.going.channel ∙ z.other) z.asks stays)
       ]
 ]

@@ -1,11 +1,12 @@
 -- A step of a run, and what is so of runs between steps.
 use Rattle.std.proofs.Common.{◌≡◌, ℕ, zero, suc, ◌≤◌, ◌<◌, ◌==◌, ◌||◌, Bool, true, false, List, [], ◌∷◌, length, Some, None, inl, inr, refl, sym, ap, subst, ◌∙◌, arith}
 use Rattle.std.proofs.lemmas.Bool.{cases_Bool, eqb-true, true≢false}
+use Rattle.sync_types.proofs.FreeTakings.{NobodyRobs, step_robs_nobody}
 use Rattle.sync_types.specs.BoardActions.{after_own_part, channels_started}
 use Rattle.sync_types.specs.BoardAlarms.{alarm_of}
-use Rattle.sync_types.specs.Boards.{IsRunning, State as Doing, Ownership, OwnedBy, FreeAt, Board, among, owner_of, ownership_of, is_running, is_idle}
+use Rattle.sync_types.specs.Boards.{IsIdle, IsRunning, State as Doing, Ownership, OwnedBy, FreeAt, Board, among, owner_of, ownership_of, is_running, is_idle}
 use Rattle.sync_types.specs.Events.{channels_in}
-use Rattle.sync_types.specs.GoingOn.{Going, goings_on, after_goings, free_position}
+use Rattle.sync_types.specs.GoingOn.{Going, goings_on, after_goings, takes_from_standing}
 use Rattle.sync_types.specs.Turns.{Move, after_step, AreOfRunning}
 use Rattle.sync_types.specs.declared.Step.{Step}
 use Rattle.order_clocks.specs.Happenings.{Happening, board_at, happening_of, happening_at, going_of}
@@ -17,8 +18,9 @@ use Rattle.board_laws.proofs.Basics.{in_no_call}
 use Rattle.board_laws.proofs.Takings.{IsOf}
 use Rattle.board_laws.proofs.SettledBoards.{board_eq, holder_by_axes}
 use Rattle.board_laws.proofs.Zones.{zones_step}
+use Rattle.board_laws.proofs.AtOnce.{Orderly}
 use Rattle.board_laws.proofs.Goings.{Went, went_of, Part, part_of}
-use Rattle.schedule_laws.specs.Tracked.{move_at, part_at, actor, own_at, cell_at, tracked}
+use Rattle.schedule_laws.specs.Tracked.{move_at, part_at, actor, own_at, free_position, cell_at, tracked}
 
 -- the step of a place in a run
 pub record StepAt (b : Board) (moves : List Move) (i : ℕ) : Type 0 where
@@ -48,6 +50,21 @@ zones_at b moves (suc i) zs run inside =
     let w = step_at b moves i (omega arith) run in
     subst (λ (a : Board). Zones a) (sym w.after) (zones_step (board_at b moves i) w.move.channel w.move.step (zones_at b moves i zs run (omega arith)))
 
+-- nor does one take axes from channels that stand
+pub none_fresh : (b : Board) → Fresh b → NobodyRobs b
+none_fresh b fresh c = awake_takes_free (b.state c) (fresh.awake c)
+  where
+    awake_takes_free : (s : Doing) → (is_idle s || is_running s) ≡ true → takes_from_standing s ≡ false
+    awake_takes_free IsIdle on = refl
+    awake_takes_free (IsRunning g) on = refl
+    awake_takes_free s on = absurd (true≢false (sym on))
+
+pub none_at : (b : Board) (moves : List Move) (i : ℕ) → NobodyRobs b → AreOfRunning b moves → i ≤ length moves → NobodyRobs (board_at b moves i)
+none_at b moves zero none run inside = subst (λ (a : Board). NobodyRobs a) (sym (board_zero moves b)) none
+none_at b moves (suc i) none run inside =
+    let w = step_at b moves i (omega arith) run in
+    subst (λ (a : Board). NobodyRobs a) (sym w.after) (step_robs_nobody (board_at b moves i) w.move.channel w.move.step (none_at b moves i none run (omega arith)))
+
 ownership_is : (a : Ownership) → ownership_of (owner_of a) (free_position a) ≡ a
 ownership_is (OwnedBy c) = refl
 ownership_is (FreeAt p) = refl
@@ -55,7 +72,7 @@ ownership_is (FreeAt p) = refl
 -- the board of the machine of a run is that of the run
 pub board_told : (b : Board) (moves : List Move) (i : ℕ) → Zones (board_at b moves i) → board_of (tracked b moves i) ≡ board_at b moves i
 unfolding own_at cell_at
-board_told b moves i zs = board_eq (board_of (tracked b moves i)) (board_at b moves i) refl (λ c m. refl) (λ c. refl) (λ c. refl) (λ x. ownership_is ((board_at b moves i).axis x))
+board_told b moves i zs = board_eq (board_of (tracked b moves i)) (board_at b moves i) refl (λ c m. refl) (λ c. refl) (λ c. refl) (λ c x. refl) (λ x. ownership_is ((board_at b moves i).axis x))
     (λ z. sym (holder_by_axes (board_at b moves i) (tracked b moves i) zs refl (λ x. sym (ownership_is ((board_at b moves i).axis x))) z)) (λ z. refl)
 
 pub seat_at : (b : Board) (moves : List Move) (i c : ℕ) → (own_at b moves i c).seat ≡ In ((board_at b moves i).state c)
@@ -69,31 +86,32 @@ pub record Here (b : Board) (moves : List Move) (i : ℕ) : Type 0 where
   pub at : move_at moves i ≡ Some (record { channel = p; step = step })
   pub run : machine.is_running (own_at b moves i p).seat ≡ true
   pub uncalled : (c r : ℕ) → asks (own_at b moves i c).seat (Call r) ≡ false
-  pub zones : Zones (board_of (tracked b moves i))
+  pub orderly : Orderly (tracked b moves i)
   pub happens : happening_at b moves i ≡ happening_of (board_of (tracked b moves i)) p step
   pub part : part_at b moves i ≡ after_own_part (board_of (tracked b moves i)) p step
   pub after : board_at b moves (suc i) ≡ after_step (board_of (tracked b moves i)) p step
   pub parts : Part (tracked b moves i) p step
 
-pub here : (b : Board) (moves : List Move) (i : ℕ) → Zones b → AreOfRunning b moves → i < length moves → Here b moves i
-here b moves i zs run inside =
+pub here : (b : Board) (moves : List Move) (i : ℕ) → Fresh b → AreOfRunning b moves → i < length moves → Here b moves i
+here b moves i fresh run inside =
     let w = step_at b moves i inside run in
-    let zi = zones_at b moves i zs run (omega (arith, inside)) in
+    let zi = zones_at b moves i fresh.zones run (omega (arith, inside)) in
     let e = board_told b moves i zi in
     let runs : machine.is_running (own_at b moves i w.move.channel).seat ≡ true = ap (λ (s : Seat). machine.is_running s) (seat_at b moves i w.move.channel) ∙ running ((board_at b moves i).state w.move.channel) w.runs in
     let uncalled : (c r : ℕ) → asks (own_at b moves i c).seat (Call r) ≡ false = λ c r. ap (λ (s : Seat). asks s (Call r)) (seat_at b moves i c) ∙ in_no_call ((board_at b moves i).state c) r in
-    let zones : Zones (board_of (tracked b moves i)) = subst (λ (a : Board). Zones a) (sym e) zi in
+    let none : NobodyRobs (board_at b moves i) = none_at b moves i (none_fresh b fresh) run (omega (arith, inside)) in
+    let orderly : Orderly (tracked b moves i) = record { zones = subst (λ (a : Board). Zones a) (sym e) zi; none = subst (λ (a : Board). NobodyRobs a) (sym e) none } in
     record {
       p = w.move.channel;
       step = w.move.step;
       at = w.at;
       run = runs;
       uncalled = uncalled;
-      zones = zones;
+      orderly = orderly;
       happens = w.happens ∙ ap (λ (a : Board). happening_of a w.move.channel w.move.step) (sym e);
       part = w.part ∙ ap (λ (a : Board). after_own_part a w.move.channel w.move.step) (sym e);
       after = w.after ∙ ap (λ (a : Board). after_step a w.move.channel w.move.step) (sym e);
-      parts = part_of (tracked b moves i) w.move.channel w.move.step runs uncalled zones;
+      parts = part_of (tracked b moves i) w.move.channel w.move.step runs uncalled orderly;
     }
   where
     running : (s : Doing) → is_running s ≡ true → machine.is_running (In s) ≡ true
@@ -117,7 +135,7 @@ pub after_told : (b : Board) (moves : List Move) (i : ℕ) (w : Here b moves i) 
 after_told b moves i w = w.after ∙ ap after_goings w.parts.board
 
 pub went_told : (b : Board) (moves : List Move) (i : ℕ) (w : Here b moves i) (g : Going) → IsOf g (happening_at b moves i).goings → Went (mid w) g
-went_told b moves i w g on = went_of (mid w) (starts w) g w.parts.zones w.parts.called (subst (λ (gs : List Going). IsOf g gs) (goings_told b moves i w) on)
+went_told b moves i w g on = went_of (mid w) (starts w) g w.parts.orderly w.parts.called (subst (λ (gs : List Going). IsOf g gs) (goings_told b moves i w) on)
 
 -- the going on of a channel
 pub found_in : (gs : List Going) (c : ℕ) (g : Going) → going_of gs c ≡ Some g → IsOf g gs × (g.channel ≡ c)

@@ -70,7 +70,7 @@ in_here b moves i p s w e clean quiet next = record {
 
 pub quiet_step : (b : Board) (moves : List Move) (i p : ℕ) (s : Step) → Fresh b → AreOfRunning b moves → i < length moves → move_at moves i ≡ Some (move_made p s) → HasNoRaceAt b moves i → Stepped b moves i p s
 quiet_step b moves i p s fresh run inside at none =
-    let w = here b moves i fresh.zones run inside in
+    let w = here b moves i fresh run inside in
     let h = held_at b moves i fresh run (omega (arith, inside)) in
     let held = held_in b moves i w h in
     let inv = put_inv (tracked b moves i) w.p (touches w.step.action) (effect (tracked b moves i) w.p w.step) (inv_at b moves i h) (act_is (tracked b moves i) w.p w.step) in
@@ -79,7 +79,7 @@ quiet_step b moves i p s fresh run inside at none =
 
 pub clean_step : (b : Board) (moves : List Move) (i p : ℕ) (s : Step) → Fresh b → AreOfRunning b moves → i < length moves → move_at moves i ≡ Some (move_made p s) → IsClean (tracked b moves i) p s → Stepped b moves i p s
 clean_step b moves i p s fresh run inside at clean =
-    let w = here b moves i fresh.zones run inside in
+    let w = here b moves i fresh run inside in
     let e = here_is b moves i p s w at in
     let h = held_at b moves i fresh run (omega (arith, inside)) in
     let held = held_in b moves i w h in
@@ -128,7 +128,7 @@ runs_on b ms m q fresh run m_runs q_runs n =
     let all : List Move = ms ++ m ∷ [] in
     let run' : AreOfRunning b all = are_more b ms (m ∷ []) run (m_runs, tt) in
     let size : length all ≡ length ms + 1 = length-append ms (m ∷ []) in
-    let w = here b all (length ms) fresh.zones run' (omega (arith, size)) in
+    let w = here b all (length ms) fresh run' (omega (arith, size)) in
     let e = here_is b all (length ms) m.channel m.step w (move_there ms m []) in
     let end : board_at b all (length ms) ≡ after_moves b ms = board_begin b ms (m ∷ []) in
     let next : board_at b all (suc (length ms)) ≡ after_step (after_moves b ms) m.channel m.step = board_second b ms m [] in

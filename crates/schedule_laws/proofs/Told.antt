@@ -57,7 +57,7 @@ marks_waited (IsHolding (AtEnds named) line) d k = go named
     go : (xs : List ℕ) → false ≡ list_any (same (Mark d k)) (map (λ (e : ℕ). End e) xs)
     go [] = refl
     go (x ∷ xs) = go xs
-marks_waited (IsHolding (AtAxes named) line) d k = go named
+marks_waited (IsHolding (AtAxes from_standing named) line) d k = go named
   where
     go : (xs : List ℕ) → false ≡ list_any (same (Mark d k)) (map (λ (e : ℕ). Axis e) xs)
     go [] = refl
@@ -66,7 +66,7 @@ marks_waited s d k = refl
 
 pub axes_waited : (s : Doing) (x : ℕ) → asks_for (hold_in s) x ≡ asks (In s) (Axis x)
 unfolding asks
-axes_waited (IsHolding (AtAxes axes) line) x = go axes
+axes_waited (IsHolding (AtAxes from_standing axes) line) x = go axes
   where
     go : (ys : List ℕ) → among ys x ≡ list_any (same (Axis x)) (map (λ (a : ℕ). Axis a) ys)
     go [] = refl
@@ -105,16 +105,17 @@ mark_state s d k on = go s (marks_waited s d k ∙ on)
     go s on = absurd (true≢false (sym on))
 
 pub record AtAxis (s : Doing) (x : ℕ) : Type 0 where
+  pub from_standing : Bool
   pub axes : List ℕ
   pub line : ℕ
-  pub state : s ≡ IsHolding (AtAxes axes) line
+  pub state : s ≡ IsHolding (AtAxes from_standing axes) line
   pub names : among axes x ≡ true
 
 pub axis_state : (s : Doing) (x : ℕ) → asks (In s) (Axis x) ≡ true → AtAxis s x
 axis_state s x on = go s (axes_waited s x ∙ on)
   where
     go : (s : Doing) → asks_for (hold_in s) x ≡ true → AtAxis s x
-    go (IsHolding (AtAxes axes) line) on = record { axes = axes; line = line; state = refl; names = on }
+    go (IsHolding (AtAxes from_standing axes) line) on = record { from_standing = from_standing; axes = axes; line = line; state = refl; names = on }
     go s on = absurd (true≢false (sym on))
 
 -- the seat within a step of a channel that asks

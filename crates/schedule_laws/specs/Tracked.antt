@@ -1,5 +1,5 @@
 -- Steps. Each run, after so many of its steps, as the machine of the laws of the board has it.
-use Rattle.std.specs.Prelude.{ℕ, zero, suc, ◌==◌, ◌&&◌, Bool, List, [], ◌∷◌, ◌++◌, filter, Option, Some, None, if◌then◌else◌}
+use Rattle.std.specs.Prelude.{ℕ, ℤ, pos, zero, suc, ◌==◌, ◌&&◌, Bool, List, [], ◌∷◌, ◌++◌, filter, Option, Some, None, if◌then◌else◌}
 use Rattle.std.specs.Option.{option_map_or}
 use Rattle.board_laws.specs.Machine.{In, Own, Cell, State, Clock, Span, Tenure, with_value_at, span_of, tenures_handed_on}
 use Rattle.order_clocks.specs.Counters.{LastRows, last_rows, rows_after_act}
@@ -7,9 +7,9 @@ use Rattle.order_clocks.specs.CourseOf.{course_of}
 use Rattle.order_clocks.specs.Happenings.{Raised, Freed, board_at, happening_at, going_of, of_going}
 use Rattle.order_clocks.specs.TracedRaces.{Trace, Lowered, Needed, Took, Touched, act_leaves, going_leaves}
 use Rattle.sync_types.specs.BoardActions.{after_own_part}
-use Rattle.sync_types.specs.Boards.{Board, among, channel_numbers, grant_in, owner_of}
+use Rattle.sync_types.specs.Boards.{Ownership, OwnedBy, FreeAt, Board, among, channel_numbers, grant_in, owner_of}
 use Rattle.sync_types.specs.Events.{channels_in}
-use Rattle.sync_types.specs.GoingOn.{first_of, free_position}
+use Rattle.sync_types.specs.GoingOn.{first_of}
 use Rattle.sync_types.specs.Runs.{as_list, gets_a_grant}
 use Rattle.sync_types.specs.Turns.{Move, after_step}
 use Rattle.sync_types.specs.declared.Grant.{Grant}
@@ -103,6 +103,7 @@ own_at b moves i c = record {
   marks = (board_at b moves i).marks c;
   seat = In ((board_at b moves i).state c);
   program = (board_at b moves i).program c;
+  last_position = (board_at b moves i).last_position c;
   grants = grants_at b moves i c;
   count = (rows_at b moves i).past c c;
   past = (rows_at b moves i).past c;
@@ -114,6 +115,11 @@ own_at b moves i c = record {
   took = λ x. last_place b moves i c (Took x);
   started = λ y. last_place b moves i c (Touched y);
 }
+
+-- where an axis is free; 0 where it is owned
+abbrev pub free_position : Ownership → ℤ
+free_position (OwnedBy c) = pos 0
+free_position (FreeAt position) = position
 
 unfoldable pub cell_at : Board → List Move → ℕ → ℕ → Cell
 cell_at b moves i x = record {

@@ -1,7 +1,7 @@
 -- The events of a channel in two runs, one by one: they tell the same and are the same.
 use Rattle.std.proofs.Common.{◌≡◌, ◌∙◌, ℕ, zero, suc, Bool, true, false, cond, ◌==◌, List, [], ◌∷◌, length, map, filter, slice_get, slice_index_or, Some, if◌then◌else◌, refl, sym, ap, subst}
 use Rattle.std.proofs.lemmas.Bool.{eqb-true}
-use Rattle.board_laws.specs.Zones.{Zones}
+use Rattle.speed_laws.proofs.RunBoards.{IsRunBoard}
 use Rattle.zone_stretches.proofs.EventLaws.{IsTold, all_told, own_name}
 use Rattle.zone_stretches.proofs.NameLaws.{occurrences_named}
 use Rattle.zone_stretches.specs.Occurrences.{OccurrenceView, occurrences_of}
@@ -82,7 +82,7 @@ module _ (b : Board) (ms ns : List Move) (rows others : List (List Item)) where
 
   -- ---- the events of a channel
 
-  module _ (zs : Zones b) (one : AreOfRunning b ms) (two : AreOfRunning b ns) (c : ℕ) where
+  module _ (zs : IsRunBoard b) (one : AreOfRunning b ms) (two : AreOfRunning b ns) (c : ℕ) where
     abbrev in_run : List Move → List OccurrenceView
     in_run moves = filter (λ o. o.channel == c) (occurrences_of b moves)
 

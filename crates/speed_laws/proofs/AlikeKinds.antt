@@ -3,11 +3,10 @@ use Rattle.std.proofs.Common.{◌≡◌, ◌∙◌, ℕ, suc, true, false, cond,
 use Rattle.std.specs.Prelude.{is_some}
 use Rattle.std.proofs.lemmas.Bool.{cases_Bool, eqb-true, eq-eqb, ne_eqb}
 use Rattle.std.proofs.lemmas.List.Elements.{filter-append}
-use Rattle.board_laws.proofs.Zones.{zones_step}
-use Rattle.board_laws.specs.Zones.{Zones}
 use Rattle.order_clocks.specs.Happenings.{going_of, happening_of, hold_in}
 use Rattle.order_clocks.specs.Watching.{wait_in}
 use Rattle.speed_laws.proofs.Histories.{found_in, none_in}
+use Rattle.speed_laws.proofs.RunBoards.{IsRunBoard, run_board_step}
 use Rattle.speed_laws.proofs.StepEvents.{actor_told, as_goings, goes_on, goes_waited, is_stopped, kept_state, not_started, part_other, started_other, step_events}
 use Rattle.sync_types.proofs.BoardTests.{no_truth}
 use Rattle.sync_types.specs.BoardActions.{after_own_part}
@@ -54,7 +53,7 @@ holds_kind other awake off goes = absurd cc
 
 -- ---- one step
 
-module _ (b : Board) (p : ℕ) (step : Step) (zs : Zones b) (running : is_running (b.state p) ≡ true) (i : ℕ) (last : State) where
+module _ (b : Board) (p : ℕ) (step : Step) (zs : IsRunBoard b) (running : is_running (b.state p) ≡ true) (i : ℕ) (last : State) where
   abbrev goings : List Going
   goings = goings_in_step b p step
 
@@ -128,12 +127,12 @@ module _ (b : Board) (p : ℕ) (step : Step) (zs : Zones b) (running : is_runnin
 
 -- ---- all steps
 
-pub kinds_follow : (ms : List Move) (b : Board) (i c : ℕ) → Zones b → AreOfRunning b ms → Follow (b.state c) (filter (λ o. o.channel == c) (occurrences_from b i ms)) ((after_moves b ms).state c)
+pub kinds_follow : (ms : List Move) (b : Board) (i c : ℕ) → IsRunBoard b → AreOfRunning b ms → Follow (b.state c) (filter (λ o. o.channel == c) (occurrences_from b i ms)) ((after_moves b ms).state c)
 kinds_follow [] b i c zs run = record { now = λ awake. refl; later = tt }
 kinds_follow (m ∷ ms) b i c zs run =
     let next = after_step b m.channel m.step in
     let last = (after_moves next ms).state c in
-    let rest = kinds_follow ms next (suc i) c (zones_step b m.channel m.step zs) run.1 in
+    let rest = kinds_follow ms next (suc i) c (run_board_step b m.channel m.step zs) run.1 in
     let here = occurrences_in i m.step (happening_of b m.channel m.step) in
     let there = occurrences_from next (suc i) ms in
     let parts = filter-append (λ o. o.channel == c) here there ∙ ap (λ (os : List OccurrenceView). os ++ filter (λ o. o.channel == c) there) (step_events b m.channel m.step i c run.0 zs) in

@@ -2,8 +2,6 @@
 use Rattle.std.proofs.Common.{◌≡◌, ◌∙◌, ℕ, zero, suc, ◌==◌, List, [], ◌∷◌, ◌++◌, length, map, filter, slice_get, slice_index_or, Option, None, Some, All, inl, refl, sym, ap, subst}
 use Rattle.std.proofs.lemmas.List.Elements.{All-head, All-tail}
 use Rattle.std.specs.List.{flat_map}
-use Rattle.board_laws.proofs.Zones.{zones_first}
-use Rattle.board_laws.specs.Zones.{Zones}
 use Rattle.channel_machine.specs.StartStates.{start_of}
 use Rattle.job_types.specs.Job.{JobView}
 use Rattle.job_types.specs.SoundJob.{IsSoundJob}
@@ -18,6 +16,7 @@ use Rattle.speed_laws.proofs.AlikeNames.{overlaps_alike}
 use Rattle.speed_laws.proofs.AlikeSpans.{AllAlikeSpans, AllAlikeTold, AreAlikeTold, between_alike, channel_alike, ended_alike, stretch_alike}
 use Rattle.speed_laws.proofs.AlikeStates.{clocks_alike, tellings_alike, tenures_alike}
 use Rattle.speed_laws.proofs.AlikeTenures.{AllAlikeTenures, AreAlikeTenures, zone_alike}
+use Rattle.speed_laws.proofs.RunBoards.{IsRunBoard, run_board_first}
 use Rattle.speed_laws.proofs.StartZones.{zones_start}
 use Rattle.speed_laws.specs.AlikeRuns.{AllAlike, AllZonesAlike, HaveAlikeZoneTimes, QuietRunsHaveAlikeZoneTimes}
 use Rattle.speed_laws.specs.Doings.{Doings}
@@ -112,7 +111,7 @@ module _ (b : Board) (ms ns : List Move) (run other : RunView) where
 
   -- ---- the stretches of all zones
 
-  module _ (job : JobView) (zs : Zones b) (one : AreOfRunning b ms) (two : AreOfRunning b ns)
+  module _ (job : JobView) (zs : IsRunBoard b) (one : AreOfRunning b ms) (two : AreOfRunning b ns)
       (events : (c : ℕ) → AreAlikeEvents b ms ns run.items other.items (filter (λ o. o.channel == c) (occurrences_of b ms)) (filter (λ o. o.channel == c) (occurrences_of b ns)))
       (tenures : (x : ℕ) → tenures_at b ms (length ms) x ≡ tenures_at b ns (length ns) x) where
     zone_told : (zone : ZoneLine) → b.holder zone.zone ≡ zone.holder → IsZoneOf b.start zone
@@ -151,7 +150,7 @@ module _ (job : JobView) (doings : Doings) (cs ds : List ℕ) (run other : RunVi
       let same = all_agree doings.script (start_of job) cs ds quiet maximal in
       let left : List OccurrenceView = filter (λ o. o.channel == c) (occurrences_of board ms) in
       let right : List OccurrenceView = filter (λ o. o.channel == c) (occurrences_of board ns) in
-      events_alike board ms ns run.items other.items (zones_first (start_of job) quiet.sound) one.running two.running c (λ j x. ap (λ (clock : ℕ → ℕ). clock x) (clocks_alike doings.script (start_of job) cs ds quiet maximal c j))
+      events_alike board ms ns run.items other.items (run_board_first (start_of job) quiet.sound) one.running two.running c (λ j x. ap (λ (clock : ℕ → ℕ). clock x) (clocks_alike doings.script (start_of job) cs ds quiet maximal c j))
       (ap (λ (b : Board). b.state c) (one.board ∙ same.board ∙ sym two.board))
       (ap (λ (rows : List (List Item)). map (telling_of rows) left) by.items ∙ tellings_alike doings (start_of job) cs ds quiet maximal c ∙ ap (λ (rows : List (List Item)). map (telling_of rows) right) (sym also.items))
 
@@ -159,7 +158,7 @@ module _ (job : JobView) (doings : Doings) (cs ds : List ℕ) (run other : RunVi
   stretches_told =
       let one = run_is_replay doings.script (first_stage (start_of job)) cs quiet.maximal.run in
       let two = run_is_replay doings.script (first_stage (start_of job)) ds maximal.run in
-      zones_told board ms ns run other job (zones_first (start_of job) quiet.sound) one.running two.running events (λ x. tenures_alike doings.script (start_of job) cs ds quiet maximal x)
+      zones_told board ms ns run other job (run_board_first (start_of job) quiet.sound) one.running two.running events (λ x. tenures_alike doings.script (start_of job) cs ds quiet maximal x)
       (zones_in_order job) (zones_start job sound) (λ zone there. there.holder)
 
   all_told : AllZonesTold board ms ns run other (all_stretches job (first_board (start_of job)) run).zones (all_stretches job (first_board (start_of job)) other).zones

@@ -7,10 +7,10 @@ use Rattle.axis_sets.specs.Positions.{stands}
 use Rattle.axis_sets.specs.Sets.{has}
 use Rattle.board_laws.specs.Machine.{Place}
 use Rattle.board_laws.specs.Machine as machine
-use Rattle.board_laws.specs.Zones.{Zones}
 use Rattle.job_types.specs.Job.{JobView}
 use Rattle.job_types.specs.Zones.{has_axis}
 use Rattle.job_types.specs.declared.job.ZoneLine.{ZoneLine}
+use Rattle.speed_laws.proofs.RunBoards.{IsRunBoard}
 use Rattle.zone_stretches.proofs.HandLaws.{HandsAre, IsFor, carry_from, run_hands}
 use Rattle.zone_stretches.specs.Occurrences.{OccurrenceView, occurrences_from, occurrences_of}
 use Rattle.zone_stretches.specs.Spans.{SpanStartView}
@@ -198,7 +198,7 @@ module _ (b : Board) (ms ns : List Move) (run other : RunView) where
 
     -- ---- of a zone
 
-    module _ (job : JobView) (zone : ZoneLine) (zs : Zones b) (holder : b.holder zone.zone ≡ zone.holder) (for : IsFor zone b) (one : AreOfRunning b ms) (two : AreOfRunning b ns) where
+    module _ (job : JobView) (zone : ZoneLine) (zs : IsRunBoard b) (holder : b.holder zone.zone ≡ zone.holder) (for : IsFor zone b) (one : AreOfRunning b ms) (two : AreOfRunning b ns) where
       first_alike : AreAlikeBeginnings b ms ns run other (first_tenure job zone).begins (first_tenure job zone).begins
       first_alike = record { kind = refl; line = refl; at = refl; on = refl; first = tt }
 
@@ -218,8 +218,8 @@ module _ (b : Board) (ms ns : List Move) (run other : RunView) where
       read_in x carries moves runs =
           all_read zone x carries (occurrences_from b 0 moves) (first_tenure job zone).begins (occurrences_from b 0 moves) (λ c. 0) (first_tenure job zone)
           (record { owner = owner_of (b.axis x); first = None; last = None; from = 0; upto = 0 })
-          (record { owner = sym holder ∙ sym (zs.owner zone.zone x (for x ∙ carries)); from = refl; begins = refl; ends = (refl, refl) })
-          (subst (λ (w : Option ℕ). HandsAre zone w (occurrences_from b 0 moves)) holder (run_hands moves b zone 0 zs for))
+          (record { owner = sym holder ∙ sym (zs.zones.owner zone.zone x (for x ∙ carries)); from = refl; begins = refl; ends = (refl, refl) })
+          (subst (λ (w : Option ℕ). HandsAre zone w (occurrences_from b 0 moves)) holder (run_hands moves b zone 0 zs.robs_nobody zs.zones for))
           (run_takes moves b zone 0 x carries zs for runs)
           (places_from (occurrences_from b 0 moves))
 

@@ -6,9 +6,7 @@ use Rattle.std.proofs.lemmas.Option.{same_Some, slice_get-map, slice_get_within}
 use Rattle.axis_sets.specs.Positions.{position_of, stands}
 use Rattle.axis_sets.specs.Sets.{has}
 use Rattle.board_laws.proofs.Takings.{IsOf}
-use Rattle.board_laws.proofs.Zones.{zones_first, zones_step}
 use Rattle.board_laws.specs.Machine.{Place}
-use Rattle.board_laws.specs.Zones.{Zones}
 use Rattle.channel_machine.specs.StartStates.{start_of}
 use Rattle.job_types.specs.Axes.{start_position}
 use Rattle.job_types.specs.Job.{JobView}
@@ -26,6 +24,7 @@ use Rattle.speed_laws.proofs.PastEvents.{is_past, made_counts}
 use Rattle.speed_laws.proofs.PresentSpans.{PresentSpan, spoken_first}
 use Rattle.speed_laws.proofs.PresentStretches.{IsNow, zone_now}
 use Rattle.speed_laws.proofs.PresentTenures.{BeginsWithLast, IsPresent, holder_known, present_tenure}
+use Rattle.speed_laws.proofs.RunBoards.{IsRunBoard, run_board_first, run_board_step}
 use Rattle.speed_laws.proofs.StepEvents.{taken}
 use Rattle.speed_laws.proofs.StretchBoxes.{first_on}
 use Rattle.speed_laws.proofs.SwitchedZones.{on_after_step}
@@ -38,7 +37,7 @@ use Rattle.sync_types.specs.BoardActions.{after_own_part, after_part, channels_s
 use Rattle.sync_types.specs.BoardAlarms.{alarm_of}
 use Rattle.sync_types.specs.Boards.{Board, FreeAt, among, channel_numbers, first_board, is_running, is_this, ownership_of}
 use Rattle.sync_types.specs.Events.{IsLowestName}
-use Rattle.sync_types.specs.GoingOn.{Going, after_goes, all_takings, free_position, going_at_once, going_of_start, goers_at_once}
+use Rattle.sync_types.specs.GoingOn.{Going, after_goes, all_takings, going_at_once, going_of_start, goers_at_once}
 use Rattle.sync_types.specs.Runs.{first_stage, stage_after}
 use Rattle.sync_types.specs.Starts.{IsSound, first_owner, first_position}
 use Rattle.sync_types.specs.Turns.{AreOfRunning, Move, after_moves, after_step, goings_in_step}
@@ -114,14 +113,14 @@ module _ (job : JobView) (zone : ZoneLine) where
   is_on_by (Some o) = has o.on
 
   pub record StandsBy (last : Option OccurrenceView) (b : Board) : Type 0 where
-    pub at : (axis : ℕ) → has_axis zone axis ≡ true → stands_by last axis ≡ free_position (b.axis axis)
+    pub at : (axis : ℕ) → has_axis zone axis ≡ true → b.axis axis ≡ FreeAt (stands_by last axis)
     pub on : is_on_by last zone.zone ≡ b.is_on zone.zone
 
   -- the board has it so while nobody holds it
   abbrev pub IsFreeBy : Option OccurrenceView → Board → Type 0
   IsFreeBy last b = b.holder zone.zone ≡ None → StandsBy last b
 
-  module _ (b : Board) (p i : ℕ) (step : Step) (zs : Zones b) (running : is_running (b.state p) ≡ true) (for : IsFor zone b) where
+  module _ (b : Board) (p i : ℕ) (step : Step) (zs : IsRunBoard b) (running : is_running (b.state p) ≡ true) (for : IsFor zone b) where
     abbrev act : OccurrenceView
     act = act_of i step (happening_of b p step)
 
@@ -134,7 +133,7 @@ module _ (job : JobView) (zone : ZoneLine) where
         by_alarm (Some code) = refl
         by_alarm None = refl
 
-    told_position : (o : Option ℤ) → unwrap_or o (pos 0) ≡ position_or_zero o
+    told_position : (o : Option ℤ) → position_or_zero o ≡ unwrap_or o (pos 0)
     told_position None = refl
     told_position (Some position) = refl
 
@@ -142,7 +141,7 @@ module _ (job : JobView) (zone : ZoneLine) where
       quiet : (owner_next zone (b.holder zone.zone) act ≡ None) × ((g : Going) → IsIn g (goings_in_step b p step) → carry zone (among g.took) ≡ false)
       quiet =
           let move : Move = record { channel = p; step = step } in
-          none_takes zone i (goings_in_step b p step) (goings_in_step b p step) (owner_next zone (b.holder zone.zone) act) ((step_hands b move zone i zs for).1 ∙ free)
+          none_takes zone i (goings_in_step b p step) (goings_in_step b p step) (owner_next zone (b.holder zone.zone) act) ((step_hands b move zone i zs.robs_nobody zs.zones for).1 ∙ free)
 
       -- an axis that nobody takes is as the act leaves it
       axis_stays : (x : ℕ) → has_axis zone x ≡ true → (after_step b p step).axis x ≡ (after_own_part b p step).axis x
@@ -153,13 +152,13 @@ module _ (job : JobView) (zone : ZoneLine) where
 
       released : carry zone (among (happening_of b p step).frees) ≡ true → StandsBy (Some act) (after_step b p step)
       released on =
-          let held : b.holder zone.zone ≡ Some p = release_holds b p step zone zs for on in
+          let held : b.holder zone.zone ≡ Some p = release_holds b p step zone zs.zones for on in
           let mine : is_this (b.holder zone.zone) p ≡ true = rw held (eq-eqb p p refl) in
           record {
             at = λ x carries.
-                told_position (position_of step.at x)
-                ∙ ap free_position (sym (axis_stays x carries ∙ part_axis x
-                ∙ ap (λ (t : Bool). cond t (FreeAt (position_or_zero (position_of step.at x))) (b.axis x)) (release_frees b p step zone zs for on x carries)));
+                axis_stays x carries ∙ part_axis x
+                ∙ ap (λ (t : Bool). cond t (FreeAt (position_or_zero (position_of step.at x))) (b.axis x)) (release_frees b p step zone zs.zones for on x carries)
+                ∙ ap FreeAt (told_position (position_of step.at x));
             on = sym (on_after_step b p step zs running zone.zone ∙ ap (λ (t : Bool). cond t (has step.on zone.zone) (b.is_on zone.zone)) mine);
           }
 
@@ -170,9 +169,9 @@ module _ (job : JobView) (zone : ZoneLine) where
           let stood = was old in
           record {
             at = λ x carries.
-                stood.at x carries
-                ∙ ap free_position (sym (axis_stays x carries ∙ part_axis x
-                ∙ ap (λ (t : Bool). cond t (FreeAt (position_or_zero (position_of step.at x))) (b.axis x)) (not_freed x carries)));
+                axis_stays x carries ∙ part_axis x
+                ∙ ap (λ (t : Bool). cond t (FreeAt (position_or_zero (position_of step.at x))) (b.axis x)) (not_freed x carries)
+                ∙ stood.at x carries;
             on = stood.on ∙ sym (on_after_step b p step zs running zone.zone ∙ ap (λ (w : Option ℕ). cond (is_this w p) (has step.on zone.zone) (b.is_on zone.zone)) old);
           }
         where
@@ -199,19 +198,19 @@ module _ (job : JobView) (zone : ZoneLine) where
         (sym (last_stays zone i (goings_in_step b p step) (goings_in_step b p step) (cond (changes_hands zone act) (Some act) last) (quiet free).1)) (by_act free last was)
 
   -- and after a run
-  run_free : (ms : List Move) (b : Board) (i : ℕ) (last : Option OccurrenceView) → Zones b → IsFor zone b → AreOfRunning b ms → IsFreeBy last b → IsFreeBy (last_hand zone last (occurrences_from b i ms)) (after_moves b ms)
+  run_free : (ms : List Move) (b : Board) (i : ℕ) (last : Option OccurrenceView) → IsRunBoard b → IsFor zone b → AreOfRunning b ms → IsFreeBy last b → IsFreeBy (last_hand zone last (occurrences_from b i ms)) (after_moves b ms)
   run_free [] b i last zs for run was = was
   run_free (m ∷ ms) b i last zs for run was =
       let next = after_step b m.channel m.step in
       let here = occurrences_in i m.step (happening_of b m.channel m.step) in
       subst (λ (l : Option OccurrenceView). IsFreeBy l (after_moves next ms)) (sym (last_append zone last here (occurrences_from next (suc i) ms)))
-      (run_free ms next (suc i) (last_hand zone last here) (zones_step b m.channel m.step zs) (step_hands b m zone i zs for).2 run.1 (step_free b m.channel i m.step zs run.0 for last was))
+      (run_free ms next (suc i) (last_hand zone last here) (run_board_step b m.channel m.step zs) (step_hands b m zone i zs.robs_nobody zs.zones for).2 run.1 (step_free b m.channel i m.step zs run.0 for last was))
 
   first_free : IsSoundJob job → IsSound (start_of job) → IsZoneOf (start_of job) zone → find (λ z. z.zone == zone.zone) job.zones ≡ Some zone → IsFreeBy None (first_board (start_of job))
   first_free sound sound_start there found free = record {
     at = λ x carries.
         let none : first_owner (start_of job) x ≡ None = sound_start.zone_owners zone.zone x (there.axes x ∙ carries) ∙ free in
-        sym (ap (λ (w : Option ℕ). free_position (ownership_of w (first_position (start_of job) x))) none ∙ position_is job sound x);
+        ap (λ (w : Option ℕ). ownership_of w (first_position (start_of job) x)) none ∙ ap FreeAt (position_is job sound x);
     on = sym (first_on job sound zone found);
   }
 
@@ -219,7 +218,7 @@ module _ (job : JobView) (zone : ZoneLine) where
 
 -- a tenure begins as the board has the zone
 pub record BeginsAsBoard (zone : ZoneLine) (b : Board) (t : TenureView) : Type 0 where
-  pub at : (axis : ℕ) → has_axis zone axis ≡ true → t.begins.at axis ≡ free_position (b.axis axis)
+  pub at : (axis : ℕ) → has_axis zone axis ≡ true → b.axis axis ≡ FreeAt (t.begins.at axis)
   pub on : t.begins.on zone.zone ≡ b.is_on zone.zone
 
 module _ (job : JobView) (doings : Doings) (qs rs : List ℕ) (quiet : IsQuietRun doings.script (start_of job) qs) (run : IsRunOf doings.script (start_of job) rs) (zone : ZoneLine) where
@@ -249,13 +248,13 @@ module _ (job : JobView) (doings : Doings) (qs rs : List ℕ) (quiet : IsQuietRu
   begins_so : (t : TenureView) (place : Option Place) (last : Option OccurrenceView) → IsPlaceOf made place last → BeginsBy speaking (first_tenure job zone).begins place t.begins → StandsBy job zone last board
       → BeginsAsBoard zone board t
   begins_so t None None is begins stands_so = record {
-    at = λ x carries. ap (λ (b : SpanStartView). b.at x) begins ∙ stands_so.at x carries;
+    at = λ x carries. stands_so.at x carries ∙ ap (λ (b : SpanStartView). FreeAt (b.at x)) (sym begins);
     on = ap (λ (b : SpanStartView). b.on zone.zone) begins ∙ stands_so.on;
   }
   begins_so t (Some e) (Some o) is begins stands_so =
       let same = alike_told e o begins.0 is.1 is.0 begins.1 in
       record {
-        at = λ x carries. ap (λ (f : ℕ → ℤ). f x) begins.2 ∙ ap (λ (told : Telling). stands told.at x) same ∙ stands_so.at x carries;
+        at = λ x carries. stands_so.at x carries ∙ ap FreeAt (sym (ap (λ (f : ℕ → ℤ). f x) begins.2 ∙ ap (λ (told : Telling). stands told.at x) same));
         on = ap (λ (f : ℕ → Bool). f zone.zone) begins.3 ∙ ap (λ (told : Telling). has told.on zone.zone) same ∙ stands_so.on;
       }
   begins_so t None (Some o) is begins stands_so = absurd is
@@ -270,7 +269,7 @@ module _ (job : JobView) (doings : Doings) (qs rs : List ℕ) (quiet : IsQuietRu
     unfolding occurrences_of
     begins_as_board free t begins =
         let replay = run_is_replay doings.script (first_stage (start_of job)) rs run in
-        let stands_so = run_free job zone (moves_by doings.script (start_of job) rs) (first_board (start_of job)) 0 None (zones_first (start_of job) quiet.sound) there.axes replay.running
+        let stands_so = run_free job zone (moves_by doings.script (start_of job) rs) (first_board (start_of job)) 0 None (run_board_first (start_of job) quiet.sound) there.axes replay.running
         (first_free job zone sound quiet.sound there by_number) in
         begins_so t begins.place (last_hand zone None made) begins.last begins.begins
         (subst (λ (b : Board). b.holder zone.zone ≡ None → StandsBy job zone (last_hand zone None made) b) replay.board stands_so free)

@@ -11,9 +11,7 @@ use Rattle.axis_sets.specs.Sets.{members_of}
 use Rattle.axis_sets.specs.declared.limits.TheConstants.{AXIS_LIMIT}
 use Rattle.board_laws.proofs.Footprint.{no_alarm}
 use Rattle.board_laws.proofs.Takings.{IsOf, taker_grant, taken_was_free}
-use Rattle.board_laws.proofs.Zones.{zones_step}
 use Rattle.board_laws.specs.Machine.{grant_by}
-use Rattle.board_laws.specs.Zones.{Zones}
 use Rattle.channel_machine.proofs.StartLaws.{axis_found}
 use Rattle.channel_machine.specs.StartStates.{first_axes, first_axis, start_of}
 use Rattle.job_types.specs.Job.{JobView}
@@ -27,13 +25,14 @@ use Rattle.order_clocks.proofs.WatchLaws.{any_is_found}
 use Rattle.order_clocks.specs.Chains.{IsIn}
 use Rattle.speed_laws.proofs.Grants.{le_or_lt, this_one}
 use Rattle.speed_laws.proofs.PresentTenures.{part_start}
+use Rattle.speed_laws.proofs.RunBoards.{IsRunBoard, run_board_step}
 use Rattle.speed_laws.proofs.StepEvents.{actor_told, goes_on, kept_state, not_started, of_in, part_other, started_was, taken}
 use Rattle.sync_types.proofs.BoardTests.{no_truth, not_not, passes}
 use Rattle.sync_types.specs.BoardActions.{after_own_part, axes_to_free, channels_started, channels_to_start, after_effects, ownership_after, position_or_zero, state_after_action, state_after_alarm, state_of_actor}
 use Rattle.sync_types.specs.BoardAlarms.{alarm_of, lets_go_of_others, names_no_axis}
-use Rattle.sync_types.specs.Boards.{State, IsIdle, IsRunning, HasAlarmed, OwnedBy, FreeAt, Board, among, axis_numbers, board_at_rest, first_state, grant_in, grant_with, is_free, is_idle, is_running, no_positions, owner_of, owns, positions_where, start_grant}
+use Rattle.sync_types.specs.Boards.{State, IsIdle, IsRunning, HasAlarmed, Ownership, OwnedBy, FreeAt, Board, among, axis_numbers, board_at_rest, first_state, grant_in, grant_with, is_free, is_idle, is_running, no_positions, owner_of, owns, positions_where, start_grant}
 use Rattle.sync_types.specs.Events.{channels_in}
-use Rattle.sync_types.specs.GoingOn.{Going, after_goes, all_takings, axes_asked, free_position, going_at_once, going_of_start, goers_at_once, state_after_goes}
+use Rattle.sync_types.specs.GoingOn.{Going, after_goes, all_takings, axes_asked, going_at_once, going_of_start, goers_at_once, resting_position, state_after_goes}
 use Rattle.sync_types.specs.Runs.{Script, Stage, IsRun, as_list, after_turn, first_stage, stage_after}
 use Rattle.sync_types.specs.Starts.{first_position, has_axis, runs_at_first}
 use Rattle.sync_types.specs.Turns.{after_step, goings_in_step}
@@ -134,7 +133,7 @@ module _ (b : Board) (p : ℕ) (step : Step) where
           (named_known (after_effects b p step) step.action step.line x (no_alarm b p step.action e).axis)
           (by_case (among (channels_to_start step.action) c) (IsRunning (start_grant (after_effects b p step) c)) (b.state c) (λ on. no_truth false on refl) (known c x)))
 
-  module _ (zs : Zones b) (running : is_running (b.state p) ≡ true) where
+  module _ (zs : IsRunBoard b) (running : is_running (b.state p) ≡ true) where
     abbrev part : Board
     part = after_own_part b p step
 
@@ -188,7 +187,7 @@ module _ (b : Board) (p : ℕ) (step : Step) where
     abbrev pub Told : ℕ → Going → Type 0
     Told x g =
         ((is_idle (b.state g.channel) ≡ true) × (among g.took x ≡ false) × ((position_of g.grant.at x ≡ None) ⊎ (position_of g.grant.at x ≡ Some (first_position b.start x))))
-        ⊎ ((among g.took x ≡ false → position_of g.grant.at x ≡ None) × (among g.took x ≡ true → (is_free ((after_own_part b p step).axis x) ≡ true) × (x < AXIS_LIMIT → position_of g.grant.at x ≡ Some (free_position ((after_own_part b p step).axis x)))))
+        ⊎ ((among g.took x ≡ false → position_of g.grant.at x ≡ None) × (among g.took x ≡ true → (is_free ((after_own_part b p step).axis x) ≡ true) × (x < AXIS_LIMIT → position_of g.grant.at x ≡ Some (resting_position (after_own_part b p step) x ((after_own_part b p step).axis x)))))
 
     start_told : (x c : ℕ) → among starts c ≡ true → Told x (going_of_start part c)
     unfolding start_grant grant_with
@@ -203,17 +202,23 @@ module _ (b : Board) (p : ℕ) (step : Step) where
     unfolding grant_with
     quick_told x c = inr ((λ off. none_in_row axis_numbers x), (λ on. no_truth false on refl))
 
+    -- no going tells where axes stand
+    rests_alike : (x : ℕ) (a : Ownership) → resting_position (after_goes part) x a ≡ resting_position part x a
+    rests_alike x (OwnedBy c) = refl
+    rests_alike x (FreeAt position) = refl
+
     taker_told : (x : ℕ) (g : Going) → IsIn g (all_takings (after_goes part)).goings → Told x g
     unfolding grant_by
     taker_told x g within =
         let t = (taken b p step zs running).each g (of_in g (all_takings (after_goes part)).goings within) in
         let test : ℕ → Bool = λ y. among (axes_asked ((after_goes part).state g.channel)) y && not (owns part g.channel y) in
+        let rests : ℕ → ℤ = λ y. resting_position (after_goes part) y (part.axis y) in
         let there : position_of g.grant.at x ≡ position_of (taker_grant (after_goes part) g.channel).at x = ap (λ (grant : Grant). position_of grant.at x) t.grant in
         inr (
-          (λ off. there ∙ not_placed test (λ y. free_position (part.axis y)) x (sym (t.took x) ∙ off)),
+          (λ off. there ∙ not_placed test rests x (sym (t.took x) ∙ off)),
           (λ on. (
             taken_was_free (after_goes part) (all_takings (after_goes part)).board g x t on,
-            (λ below. there ∙ placed test (λ y. free_position (part.axis y)) x below ∙ ap (λ (t : Bool). cond t (Some (free_position (part.axis x))) None) (sym (t.took x) ∙ on)),
+            (λ below. there ∙ placed test rests x below ∙ ap (λ (t : Bool). cond t (Some (rests x)) None) (sym (t.took x) ∙ on) ∙ ap (λ (n : ℤ). Some n) (rests_alike x (part.axis x))),
           )),
         )
 
@@ -263,7 +268,7 @@ pub record Keeps (start_view : StartView) (stage : Stage) : Type 0 where
   pub known : (c x : ℕ) → among (axes_asked (stage.board.state c)) x ≡ true → has_axis start_view x ≡ true
   pub fresh : (c : ℕ) → is_idle (stage.board.state c) ≡ true → stage.grants c ≡ []
 
-keeps_turn : (script : Script) (start_view : StartView) (stage : Stage) (p : ℕ) → Zones stage.board → is_running (stage.board.state p) ≡ true → Keeps start_view stage → Keeps start_view (after_turn script stage p)
+keeps_turn : (script : Script) (start_view : StartView) (stage : Stage) (p : ℕ) → IsRunBoard stage.board → is_running (stage.board.state p) ≡ true → Keeps start_view stage → Keeps start_view (after_turn script stage p)
 keeps_turn script start_view stage p zs running keeps =
     let step = script p (stage.grants p) in
     record {
@@ -283,10 +288,10 @@ keeps_turn script start_view stage p zs running keeps =
     nothing true = refl
     nothing false = refl
 
-pub keeps_run : (script : Script) (start_view : StartView) (stage : Stage) (cs : List ℕ) → Zones stage.board → IsRun script stage cs → Keeps start_view stage → Keeps start_view (stage_after script stage cs)
+pub keeps_run : (script : Script) (start_view : StartView) (stage : Stage) (cs : List ℕ) → IsRunBoard stage.board → IsRun script stage cs → Keeps start_view stage → Keeps start_view (stage_after script stage cs)
 keeps_run script start_view stage [] zs run keeps = keeps
 keeps_run script start_view stage (p ∷ cs) zs run keeps =
-    keeps_run script start_view (after_turn script stage p) cs (zones_step stage.board p (script p (stage.grants p)) zs) run.1 (keeps_turn script start_view stage p zs run.0 keeps)
+    keeps_run script start_view (after_turn script stage p) cs (run_board_step stage.board p (script p (stage.grants p)) zs) run.1 (keeps_turn script start_view stage p zs run.0 keeps)
 
 pub keeps_first : (start_view : StartView) → Keeps start_view (first_stage start_view)
 unfolding first_state

@@ -5,7 +5,6 @@ use Rattle.std.specs.Option.{option_map_or}
 use Rattle.board_laws.proofs.Parts.{first_is}
 use Rattle.board_laws.proofs.Takings.{Taken, taken_was_free}
 use Rattle.board_laws.specs.Machine.{Place, Tenure, tenures_handed_on}
-use Rattle.board_laws.specs.Zones.{Zones}
 use Rattle.order_clocks.proofs.CounterLaws.{closed_other, opened_other}
 use Rattle.order_clocks.proofs.DepartLaws.{going_there}
 use Rattle.order_clocks.proofs.MemberLaws.{in_append}
@@ -13,9 +12,10 @@ use Rattle.order_clocks.specs.Chains.{IsIn}
 use Rattle.order_clocks.specs.CourseOf.{course_of}
 use Rattle.order_clocks.specs.Happenings.{Happening, board_at, going_of, happening_at, happening_of, of_going}
 use Rattle.schedule_laws.proofs.EventLaws.{count_act, count_go}
-use Rattle.schedule_laws.proofs.Steps.{step_at, zones_at}
+use Rattle.schedule_laws.proofs.Steps.{step_at}
 use Rattle.schedule_laws.specs.Tracked.{move_at, owner_span, part_at, rows_at, rows_in, taken_by, takes_in, tenures_at, tenures_in}
 use Rattle.speed_laws.proofs.Histories.{found_in}
+use Rattle.speed_laws.proofs.RunBoards.{IsRunBoard, run_board_at}
 use Rattle.speed_laws.proofs.StepEvents.{of_in, once, taken}
 use Rattle.sync_types.proofs.BoardTests.{no_truth}
 use Rattle.sync_types.specs.BoardActions.{after_own_part, channels_started}
@@ -206,7 +206,7 @@ goings_hand x i all gs counts ts takers = by_first (first_of (filter takes chann
     ])
     by_first (Some c) e = by_going (going_of gs c) c refl (first_is (λ d. of_going (going_of gs d) (λ h. among h.took x)) channel_numbers c e)
 
-module _ (b : Board) (p : ℕ) (step : Step) (zs : Zones b) (running : is_running (b.state p) ≡ true) (x : ℕ) where
+module _ (b : Board) (p : ℕ) (step : Step) (zs : IsRunBoard b) (running : is_running (b.state p) ≡ true) (x : ℕ) where
   abbrev own_part : Board
   own_part = after_own_part b p step
 
@@ -246,14 +246,14 @@ module _ (b : Board) (p : ℕ) (step : Step) (zs : Zones b) (running : is_runnin
 abbrev pub counts_at : Board → List Move → ℕ → ℕ → ℕ
 counts_at b moves i c = (rows_at b moves i).past c c
 
-module _ (b : Board) (moves : List Move) (zs : Zones b) (run : AreOfRunning b moves) (i : ℕ) (inside : i < length moves) where
+module _ (b : Board) (moves : List Move) (zs : IsRunBoard b) (run : AreOfRunning b moves) (i : ℕ) (inside : i < length moves) where
   abbrev h : Happening
   h = happening_at b moves i
 
   step_takers : (x : ℕ) → AreTakers x h.goings
   step_takers x =
       let w = step_at b moves i inside run in
-      subst (λ (k : Happening). AreTakers x k.goings) (sym w.happens) (takers_of (board_at b moves i) w.move.channel w.move.step (zones_at b moves i zs run (omega (arith, inside))) w.runs x)
+      subst (λ (k : Happening). AreTakers x k.goings) (sym w.happens) (takers_of (board_at b moves i) w.move.channel w.move.step (run_board_at b moves i zs) w.runs x)
 
   counts_in : (c : ℕ) → counted (counts_at b moves i) h.channel c ≡ (rows_in b moves i).past c c
   counts_in c = by_test (c == h.channel) refl
@@ -285,7 +285,7 @@ module _ (b : Board) (moves : List Move) (zs : Zones b) (run : AreOfRunning b mo
       by_going (Some g) e on =
           let w = step_at b moves i inside run in
           let within = subst (λ (k : Happening). IsIn g k.goings) w.happens (found_in h.goings c g e).0 in
-          let t = taker_in (board_at b moves i) w.move.channel w.move.step (zones_at b moves i zs run (omega (arith, inside))) w.runs x g within on in
+          let t = taker_in (board_at b moves i) w.move.channel w.move.step (run_board_at b moves i zs) w.runs x g within on in
           of_nobody (λ d. (rows_in b moves i).past d d) ((part_at b moves i).axis x) (ap (λ (a : Board). is_free (a.axis x)) w.part ∙ taken_was_free _ _ g x t on)
 
   step_hands : (x : ℕ) → hands x (counts_at b moves i) (tenures_at b moves i x) (in_step 0 b moves i) ≡ tenures_at b moves (suc i) x
@@ -303,7 +303,7 @@ record ReadUpto (b : Board) (moves : List Move) (i : ℕ) : Type 0 where
   counts : (c : ℕ) → counts_after (λ d. 0) (upto 0 b moves i) c ≡ counts_at b moves i c
   tenures : (x : ℕ) → hands x (λ d. 0) (tenures_at b moves 0 x) (upto 0 b moves i) ≡ tenures_at b moves i x
 
-read_upto : (b : Board) (moves : List Move) → Zones b → AreOfRunning b moves → (i : ℕ) → i ≤ length moves → ReadUpto b moves i
+read_upto : (b : Board) (moves : List Move) → IsRunBoard b → AreOfRunning b moves → (i : ℕ) → i ≤ length moves → ReadUpto b moves i
 read_upto b moves zs run zero inside = record { counts = λ c. refl; tenures = λ x. refl }
 read_upto b moves zs run (suc i) inside =
     let old = read_upto b moves zs run i (omega (arith, inside)) in
@@ -320,13 +320,13 @@ read_upto b moves zs run (suc i) inside =
     }
 
 -- the tenures of an axis in a run are read from its events
-pub tenures_read : (b : Board) (moves : List Move) (x : ℕ) → Zones b → AreOfRunning b moves → hands x (λ d. 0) (tenures_at b moves 0 x) (occurrences_of b moves) ≡ tenures_at b moves (length moves) x
+pub tenures_read : (b : Board) (moves : List Move) (x : ℕ) → IsRunBoard b → AreOfRunning b moves → hands x (λ d. 0) (tenures_at b moves 0 x) (occurrences_of b moves) ≡ tenures_at b moves (length moves) x
 unfolding occurrences_of
 tenures_read b moves x zs run =
     ap (hands x (λ d. 0) (tenures_at b moves 0 x)) (all_upto moves b 0) ∙ (read_upto b moves zs run (length moves) (omega arith)).tenures x
 
 -- and so are the counts of its events
-pub counts_read : (b : Board) (moves : List Move) (c : ℕ) → Zones b → AreOfRunning b moves → counts_after (λ d. 0) (occurrences_of b moves) c ≡ counts_at b moves (length moves) c
+pub counts_read : (b : Board) (moves : List Move) (c : ℕ) → IsRunBoard b → AreOfRunning b moves → counts_after (λ d. 0) (occurrences_of b moves) c ≡ counts_at b moves (length moves) c
 unfolding occurrences_of
 counts_read b moves c zs run =
     ap (λ (os : List OccurrenceView). counts_after (λ d. 0) os c) (all_upto moves b 0) ∙ (read_upto b moves zs run (length moves) (omega arith)).counts c

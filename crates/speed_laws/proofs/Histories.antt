@@ -3,10 +3,9 @@ use Rattle.std.proofs.Common.{◌≡◌, ◌∙◌, ℕ, suc, ◌+◌, Bool, tru
 use Rattle.std.proofs.lemmas.Bool.{cases_Bool, eqb-true, eq-eqb, ne_eqb}
 use Rattle.std.proofs.lemmas.List.{map-append}
 use Rattle.std.proofs.lemmas.List.Elements.{filter-append}
-use Rattle.board_laws.proofs.Zones.{zones_first, zones_step}
-use Rattle.board_laws.specs.Zones.{Zones}
 use Rattle.order_clocks.specs.Chains.{IsIn}
 use Rattle.order_clocks.specs.Happenings.{going_of, happening_of}
+use Rattle.speed_laws.proofs.RunBoards.{IsRunBoard, run_board_first, run_board_step}
 use Rattle.speed_laws.proofs.StepEvents.{ActorTold, actor_goes, actor_told, as_goings, goes_on, goes_waited, is_stopped, kept_state, not_started, part_other, step_events}
 use Rattle.speed_laws.specs.Doings.{Doings}
 use Rattle.speed_laws.specs.Histories.{Telling, telling_of, act_telling, going_telling, waits_at, history, items_by, ChannelsHaveHistories}
@@ -74,7 +73,7 @@ runs_not_stopped other on = absurd cc
 
 -- ---- one step
 
-module _ (doings : Doings) (stage : Stage) (p i : ℕ) (rows : List (List Item)) (zs : Zones stage.board) (running : is_running (stage.board.state p) ≡ true) (mine : slice_index_or rows i [] ≡ doings.items p (stage.grants p)) where
+module _ (doings : Doings) (stage : Stage) (p i : ℕ) (rows : List (List Item)) (zs : IsRunBoard stage.board) (running : is_running (stage.board.state p) ≡ true) (mine : slice_index_or rows i [] ≡ doings.items p (stage.grants p)) where
   abbrev step : Step
   step = doings.script p (stage.grants p)
 
@@ -184,7 +183,7 @@ pub record HistoryTold (doings : Doings) (stage : Stage) (cs : List ℕ) (i : �
       ++ history doings c at_last (is_running ((stage_after doings.script stage cs).board.state c)) ((stage_after doings.script stage cs).grants c) later)
       × Ahead (stage.board.state c) (more ++ later) at_last
 
-pub history_told : (doings : Doings) (cs : List ℕ) (stage : Stage) (i : ℕ) (rows : List (List Item)) (c : ℕ) → Zones stage.board → IsRun doings.script stage cs
+pub history_told : (doings : Doings) (cs : List ℕ) (stage : Stage) (i : ℕ) (rows : List (List Item)) (c : ℕ) → IsRunBoard stage.board → IsRun doings.script stage cs
     → ((k : ℕ) → slice_index_or rows (i + k) [] ≡ slice_index_or (items_by doings stage cs) k []) → HistoryTold doings stage cs i rows c
 history_told doings [] stage i rows c zs run same = record {
   more = [];
@@ -198,7 +197,7 @@ history_told doings (p ∷ cs) stage i rows c zs run same =
     let next = after_turn doings.script stage p in
     let later : (k : ℕ) → slice_index_or rows (suc i + k) [] ≡ slice_index_or (items_by doings next cs) k [] =
     λ k. let past : suc i + k ≡ i + suc k = omega arith in ap (λ (j : ℕ). slice_index_or rows j []) past ∙ same (suc k) in
-    let rest = history_told doings cs next (suc i) rows c (zones_step stage.board p step zs) run.1 later in
+    let rest = history_told doings cs next (suc i) rows c (run_board_step stage.board p step zs) run.1 later in
     let gained = added doings stage p i rows zs run.0 mine c in
     let grown = grants_after doings stage p i rows zs run.0 mine c in
     let here = filter (λ o. o.channel == c) (occurrences_in i step (happening_of stage.board p step)) in
@@ -238,7 +237,7 @@ pub channels_have_histories : (doings : Doings) (start : StartView) (cs : List �
 unfolding occurrences_of
 channels_have_histories doings start cs c sound run =
     let rows = items_by doings (first_stage start) cs in
-    let told = history_told doings cs (first_stage start) 0 rows c (zones_first start sound) run (λ k. let same : 0 + k ≡ k = omega arith in ap (λ (j : ℕ). slice_index_or rows j []) same) in
+    let told = history_told doings cs (first_stage start) 0 rows c (run_board_first start sound) run (λ k. let same : 0 + k ≡ k = omega arith in ap (λ (j : ℕ). slice_index_or rows j []) same) in
     let end = stage_after doings.script (first_stage start) cs in
     let e = at_end doings c (end.board.state c) (end.grants c) in
     let whole = told.goes_on [] (is_running (end.board.state c)) e.1 in

@@ -6,14 +6,13 @@ use Rattle.std.proofs.lemmas.Bool.{ne_eqb}
 use Rattle.std.proofs.lemmas.List.FromFn.{get_or-map-range_with_len}
 use Rattle.axis_sets.specs.Sets.{has, members_of}
 use Rattle.board_laws.proofs.Footprint.{no_alarm}
-use Rattle.board_laws.proofs.Zones.{zones_first, zones_goes, zones_part, zones_step, zones_taking}
-use Rattle.board_laws.specs.Zones.{Zones}
+use Rattle.speed_laws.proofs.RunBoards.{IsRunBoard, run_board_first, run_board_goes, run_board_part, run_board_step, run_board_taking}
 use Rattle.sync_types.proofs.BoardTests.{by_test, first_passes, no_truth, not_not, passes}
 use Rattle.sync_types.proofs.TakenAxes.{taken_is_free}
 use Rattle.sync_types.specs.BoardActions.{after_action, after_alarm, after_effects, after_own_part, after_part, axes_to_free, carries, channels_to_start, holder_after, is_on_after, state_after_action, state_after_alarm, state_of_actor}
 use Rattle.sync_types.specs.BoardAlarms.{alarm_of, lets_go_of_others}
 use Rattle.sync_types.specs.Boards.{State, IsRunning, HasAlarmed, Ownership, OwnedBy, FreeAt, Board, among, board_at_rest, channel_numbers, first_board, first_state, grant_with, is_free, is_this, no_positions, owner_of, owns, positions_where, start_grant, zone_numbers}
-use Rattle.sync_types.specs.GoingOn.{after_goes, after_taking, axes_to_take, can_take, free_position, goers_at_once, grant_of_taker, holder_after_taking, next_taker, state_after_goes, state_after_taking, takings, takings_from, with_its_axes}
+use Rattle.sync_types.specs.GoingOn.{after_goes, after_taking, axes_to_take, can_take, goers_at_once, grant_of_taker, holder_after_taking, next_taker, resting_position, state_after_goes, state_after_taking, takings, takings_from, with_its_axes}
 use Rattle.sync_types.specs.Runs.{Script, Stage, after_turn, first_stage, stage_after}
 use Rattle.sync_types.specs.Starts.{IsSound, axes_of_zone, first_position, runs_at_first}
 use Rattle.sync_types.specs.Turns.{after_step}
@@ -116,13 +115,13 @@ module _ (z : ℕ) (low : 1 ≤ z) (high : z ≤ ZONE_LIMIT) where
   freed_own b c other x law freed = no_truth false freed refl
 
   -- a zone that the channel lets go was no other's
-  let_go : (b : Board) (c : ℕ) (action : Action) (d : ℕ) → Zones b → lets_go_of_others b c action ≡ false → carries b (axes_to_free action) z ≡ true → (d == c) ≡ false → is_this (b.holder z) d ≡ false
+  let_go : (b : Board) (c : ℕ) (action : Action) (d : ℕ) → IsRunBoard b → lets_go_of_others b c action ≡ false → carries b (axes_to_free action) z ≡ true → (d == c) ≡ false → is_this (b.holder z) d ≡ false
   let_go b c action d zs law carried other =
       let some = carrying (axes_of_zone b.start z) (axes_to_free action) carried in
       let mine : owns b c some.0 ≡ true = freed_own b c action some.0 law some.1 in
-      ap (λ (o : Option ℕ). is_this o d) (sym (zs.owner z some.0 some.2)) ∙ not_two (owner_of (b.axis some.0)) c d mine other
+      ap (λ (o : Option ℕ). is_this o d) (sym (zs.zones.owner z some.0 some.2)) ∙ not_two (owner_of (b.axis some.0)) c d mine other
 
-  others_action : (b : Board) (c : ℕ) (step : Step) (d : ℕ) → Zones b → lets_go_of_others b c step.action ≡ false → (d == c) ≡ false → holds_on (after_action b c step) d ≡ holds_on b d
+  others_action : (b : Board) (c : ℕ) (step : Step) (d : ℕ) → IsRunBoard b → lets_go_of_others b c step.action ≡ false → (d == c) ≡ false → holds_on (after_action b c step) d ≡ holds_on b d
   unfolding holder_after is_on_after
   others_action b c step d zs law other = by_carried (carries b (axes_to_free step.action) z) refl
     where
@@ -138,7 +137,7 @@ module _ (z : ℕ) (low : 1 ≤ z) (high : z ≤ ZONE_LIMIT) where
   told_actor b c line (Get axes) = tt
   told_actor b c line other = granted b c no_positions
 
-  told_action : (b : Board) (c : ℕ) (step : Step) → Zones b → lets_go_of_others b c step.action ≡ false → AreTold b → AreTold (after_action b c step)
+  told_action : (b : Board) (c : ℕ) (step : Step) → IsRunBoard b → lets_go_of_others b c step.action ≡ false → AreTold b → AreTold (after_action b c step)
   unfolding state_after_action
   told_action b c step zs law t =
       let a : Board = after_effects b c step in
@@ -150,7 +149,7 @@ module _ (z : ℕ) (low : 1 ≤ z) (high : z ≤ ZONE_LIMIT) where
             (λ stays. still (holds_on b d) (holds_on (after_action b c step) d) (b.state d) (others_action b c step d zs law other) (t.states d)));
       }
 
-  told_part : (b : Board) (c : ℕ) (step : Step) (alarm : Option ℕ) → alarm_of b c step.action ≡ alarm → Zones b → AreTold b → AreTold (after_part b c step alarm)
+  told_part : (b : Board) (c : ℕ) (step : Step) (alarm : Option ℕ) → alarm_of b c step.action ≡ alarm → IsRunBoard b → AreTold b → AreTold (after_part b c step alarm)
   told_part b c step (Some code) is zs t = told_alarm b c step code t
   told_part b c step None is zs t = told_action b c step zs (no_alarm b c step.action is).own t
 
@@ -164,15 +163,15 @@ module _ (z : ℕ) (low : 1 ≤ z) (high : z ≤ ZONE_LIMIT) where
 
   taker_told : (b : Board) (c : ℕ) → IsTold (holds_on (with_its_axes b c) c) (grant_of_taker b c)
   unfolding grant_of_taker
-  taker_told b c = granted (with_its_axes b c) c (positions_where (among (axes_to_take b c)) (λ x. free_position (b.axis x)))
+  taker_told b c = granted (with_its_axes b c) c (positions_where (among (axes_to_take b c)) (λ x. resting_position b x (b.axis x)))
 
   -- a zone that is taken was nobody's
-  was_free : (b : Board) (c : ℕ) → can_take b c ≡ true → Zones b → carries b (axes_to_take b c) z ≡ true → b.holder z ≡ None
+  was_free : (b : Board) (c : ℕ) → can_take b c ≡ true → IsRunBoard b → carries b (axes_to_take b c) z ≡ true → b.holder z ≡ None
   was_free b c takes zs carried =
       let some = carrying (axes_of_zone b.start z) (axes_to_take b c) carried in
-      sym (zs.owner z some.0 some.2) ∙ no_owner (b.axis some.0) (taken_is_free b c some.0 takes some.1)
+      sym (zs.zones.owner z some.0 some.2) ∙ no_owner (b.axis some.0) (taken_is_free b c some.0 (zs.robs_nobody c) takes some.1)
 
-  others_taking : (b : Board) (c d : ℕ) → can_take b c ≡ true → Zones b → (d == c) ≡ false → holds_on (with_its_axes b c) d ≡ holds_on b d
+  others_taking : (b : Board) (c d : ℕ) → can_take b c ≡ true → IsRunBoard b → (d == c) ≡ false → holds_on (with_its_axes b c) d ≡ holds_on b d
   unfolding holder_after_taking
   others_taking b c d takes zs other = by_carried (carries b (axes_to_take b c) z) refl
     where
@@ -182,7 +181,7 @@ module _ (z : ℕ) (low : 1 ≤ z) (high : z ≤ ZONE_LIMIT) where
           ∙ sym (and_never (is_this (b.holder z) d) (b.is_on z) (ap (λ (o : Option ℕ). is_this o d) (was_free b c takes zs is)))
       by_carried false is = refl
 
-  told_taking : (b : Board) (c : ℕ) → can_take b c ≡ true → Zones b → AreTold b → AreTold (after_taking b c)
+  told_taking : (b : Board) (c : ℕ) → can_take b c ≡ true → IsRunBoard b → AreTold b → AreTold (after_taking b c)
   unfolding state_after_taking
   told_taking b c takes zs t = record {
     states = λ d. by_test (IsToldIn (holds_on (with_its_axes b c) d)) (d == c) (IsRunning (grant_of_taker b c)) (b.state d)
@@ -190,21 +189,21 @@ module _ (z : ℕ) (low : 1 ≤ z) (high : z ≤ ZONE_LIMIT) where
         (λ other. still (holds_on b d) (holds_on (with_its_axes b c) d) (b.state d) (others_taking b c d takes zs other) (t.states d));
   }
 
-  told_takings : (n : ℕ) (b : Board) → Zones b → AreTold b → AreTold (takings n b).board
+  told_takings : (n : ℕ) (b : Board) → IsRunBoard b → AreTold b → AreTold (takings n b).board
   told_takings zero b zs t = t
   told_takings (suc n) b zs t = next (told_takings n) (next_taker b) refl
     where
-      next : ((a : Board) → Zones a → AreTold a → AreTold (takings n a).board) → (taker : Option ℕ) → next_taker b ≡ taker → AreTold (takings_from (takings n) b taker).board
+      next : ((a : Board) → IsRunBoard a → AreTold a → AreTold (takings n a).board) → (taker : Option ℕ) → next_taker b ≡ taker → AreTold (takings_from (takings n) b taker).board
       next rest None is = t
-      next rest (Some c) is = rest (after_taking b c) (zones_taking b c zs) (told_taking b c (first_passes (can_take b) channel_numbers c is) zs t)
+      next rest (Some c) is = rest (after_taking b c) (run_board_taking b c zs) (told_taking b c (first_passes (can_take b) channel_numbers c is) zs t)
 
   -- ---- runs
 
-  told_step : (b : Board) (c : ℕ) (step : Step) → Zones b → AreTold b → AreTold (after_step b c step)
+  told_step : (b : Board) (c : ℕ) (step : Step) → IsRunBoard b → AreTold b → AreTold (after_step b c step)
   told_step b c step zs t =
       let own : Board = after_own_part b c step in
-      let zones : Zones own = zones_part b c step zs in
-      told_takings CHANNEL_LIMIT (after_goes own) (zones_goes own zones) (told_goes own (told_part b c step (alarm_of b c step.action) refl zs t))
+      let zones : IsRunBoard own = run_board_part b c step zs in
+      told_takings CHANNEL_LIMIT (after_goes own) (run_board_goes own zones) (told_goes own (told_part b c step (alarm_of b c step.action) refl zs t))
 
   told_first : (start : StartView) → AreTold (first_board start)
   unfolding first_state
@@ -212,14 +211,14 @@ module _ (z : ℕ) (low : 1 ≤ z) (high : z ≤ ZONE_LIMIT) where
     states = λ d. by_test (IsToldIn (holds_on (first_board start) d)) (runs_at_first start d) _ _ (λ runs. started (board_at_rest start) d) (λ rests. tt);
   }
 
-  told_run : (script : Script) (stage : Stage) (cs : List ℕ) → Zones stage.board → AreTold stage.board → AreTold (stage_after script stage cs).board
+  told_run : (script : Script) (stage : Stage) (cs : List ℕ) → IsRunBoard stage.board → AreTold stage.board → AreTold (stage_after script stage cs).board
   told_run script stage [] zs t = t
   told_run script stage (c ∷ cs) zs t =
       let step : Step = script c (stage.grants c) in
-      told_run script (after_turn script stage c) cs (zones_step stage.board c step zs) (told_step stage.board c step zs t)
+      told_run script (after_turn script stage c) cs (run_board_step stage.board c step zs) (told_step stage.board c step zs t)
 
   pub run_told : (script : Script) (start : StartView) → IsSound start → (cs : List ℕ) → AreTold (stage_after script (first_stage start) cs).board
-  run_told script start sound cs = told_run script (first_stage start) cs (zones_first start sound) (told_first start)
+  run_told script start sound cs = told_run script (first_stage start) cs (run_board_first start sound) (told_first start)
 
   -- of a zone that it holds
   pub grant_tells : (script : Script) (start : StartView) → IsSound start → (cs : List ℕ) (c : ℕ) (grant : Grant) → (stage_after script (first_stage start) cs).board.state c ≡ IsRunning grant

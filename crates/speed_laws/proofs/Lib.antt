@@ -4,6 +4,7 @@ pub mod ZoneLemmas
 pub mod BoxPieces
 pub mod ComparedPairs
 pub mod Grants
+pub mod RunBoards
 pub mod Runs
 pub mod StartZones
 pub mod StepEvents

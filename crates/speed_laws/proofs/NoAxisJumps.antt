@@ -5,8 +5,6 @@ use Rattle.std.specs.Option.{option_map_or}
 use Rattle.std.proofs.lemmas.Bool.{cases_Bool, eq-eqb}
 use Rattle.axis_sets.specs.Positions.{position_of}
 use Rattle.axis_sets.specs.declared.limits.TheConstants.{AXIS_LIMIT}
-use Rattle.board_laws.proofs.Zones.{zones_first}
-use Rattle.board_laws.specs.Zones.{Zones}
 use Rattle.channel_machine.proofs.StartLaws.{start_sound}
 use Rattle.channel_machine.specs.StartStates.{start_of}
 use Rattle.job_types.specs.Job.{JobView}
@@ -18,6 +16,7 @@ use Rattle.speed_laws.proofs.Grants.{position_is}
 use Rattle.speed_laws.proofs.Hands.{found_once}
 use Rattle.speed_laws.proofs.HandedAxes.{Keeps, LetsGo, Takes, axis_below, final_axis, keeps_first, keeps_run, part_axis, part_known, told}
 use Rattle.speed_laws.proofs.Histories.{found_in}
+use Rattle.speed_laws.proofs.RunBoards.{IsRunBoard, run_board_first}
 use Rattle.speed_laws.proofs.RunPlaces.{WellSpotted, opening_spotted, well_spotted}
 use Rattle.speed_laws.proofs.Standing.{nothing_done}
 use Rattle.speed_laws.proofs.Positions.{one_under}
@@ -31,7 +30,7 @@ use Rattle.speed_laws.specs.SmallSteps.{items_now, place_zero, runs, spot_now, s
 use Rattle.sync_types.proofs.BoardTests.{no_truth}
 use Rattle.sync_types.specs.BoardActions.{after_own_part, position_or_zero}
 use Rattle.sync_types.specs.Boards.{Board, Ownership, OwnedBy, FreeAt, among, is_free, is_idle, is_running, owner_of}
-use Rattle.sync_types.specs.GoingOn.{Going, free_position}
+use Rattle.sync_types.specs.GoingOn.{Going, resting_position}
 use Rattle.sync_types.specs.Runs.{Stage, first_stage}
 use Rattle.sync_types.specs.Starts.{first_position, has_axis}
 use Rattle.sync_types.specs.Turns.{after_step, goings_in_step}
@@ -44,9 +43,9 @@ abbrev position_by : (ℕ → Fraction) → Ownership → Fraction
 position_by at (OwnedBy c) = at c
 position_by at (FreeAt position) = whole position
 
-by_ownership : (at : ℕ → Fraction) (a : Ownership) → option_map_or at (owner_of a) (whole (free_position a)) ≡ position_by at a
-by_ownership at (OwnedBy c) = refl
-by_ownership at (FreeAt position) = refl
+by_ownership : (b : Board) (x : ℕ) (at : ℕ → Fraction) (a : Ownership) → option_map_or at (owner_of a) (whole (resting_position b x a)) ≡ position_by at a
+by_ownership b x at (OwnedBy c) = refl
+by_ownership b x at (FreeAt position) = refl
 
 owned_by : (a : Ownership) (c : ℕ) → owner_of a ≡ Some c → a ≡ OwnedBy c
 owned_by (OwnedBy d) c is = let same : d ≡ c = cc in ap OwnedBy same
@@ -76,14 +75,14 @@ module _ (job : JobView) (doings : Doings) (sound : IsSoundJob job) (are : AreSo
   abbrev next : State
   next = record { run = state.run ++ p ∷ []; spots = state.spots }
 
-  zones : Zones board
+  zones : IsRunBoard board
   zones = zones_then job doings (start_sound job sound) state well p on
 
   tells : TellsWhereAxesStand job doings p (stage.grants p)
   tells = are.tell.in_runs state.run p well.run on
 
   keeps : Keeps (start_of job) stage
-  keeps = keeps_run doings.script (start_of job) (first_stage (start_of job)) state.run (zones_first (start_of job) (start_sound job sound)) well.run (keeps_first (start_of job))
+  keeps = keeps_run doings.script (start_of job) (first_stage (start_of job)) state.run (run_board_first (start_of job) (start_sound job sound)) well.run (keeps_first (start_of job))
 
   abbrev Event : ℕ → Type 0
   Event c = HasEvent job doings (start_sound job sound) state well p on c
@@ -96,12 +95,12 @@ module _ (job : JobView) (doings : Doings) (sound : IsSoundJob job) (are : AreSo
 
   position_before : (axis : ℕ) → position_now job doings state axis ≡ position_by (was axis) (board.axis axis)
   unfolding position_now owner_now
-  position_before axis = by_ownership (was axis) (board.axis axis)
+  position_before axis = by_ownership board axis (was axis) (board.axis axis)
 
   position_after : (axis : ℕ) → position_now job doings next axis ≡ position_by (is axis) (final.axis axis)
   unfolding position_now owner_now
   position_after axis =
-      by_ownership (is axis) ((stage_in job doings next).board.axis axis)
+      by_ownership (stage_in job doings next).board axis (is axis) ((stage_in job doings next).board.axis axis)
       ∙ ap (λ (s : Stage). position_by (is axis) (s.board.axis axis)) (stage_next job doings (start_sound job sound) state well p on)
 
   -- where an axis is then of who has an event
@@ -113,16 +112,16 @@ module _ (job : JobView) (doings : Doings) (sound : IsSoundJob job) (are : AreSo
 
   -- ---- an axis that is free after the own part
 
-  free_before : (axis : ℕ) → is_free (part.axis axis) ≡ true → IsSame (position_by (was axis) (board.axis axis)) (whole (free_position (part.axis axis)))
+  free_before : (axis : ℕ) → is_free (part.axis axis) ≡ true → IsSame (position_by (was axis) (board.axis axis)) (whole (resting_position part axis (part.axis axis)))
   free_before axis free = elim (part_axis board p step axis) [
-    | inl same ↦ subst (λ (a : Ownership). IsSame (position_by (was axis) (board.axis axis)) (whole (free_position a))) (sym same) (stays_free (board.axis axis) (sym (ap is_free same) ∙ free))
+    | inl same ↦ subst (λ (a : Ownership). IsSame (position_by (was axis) (board.axis axis)) (whole (resting_position part axis a))) (sym same) (stays_free (board.axis axis) (sym (ap is_free same) ∙ free))
     | inr go ↦
         let owner : board.axis axis ≡ OwnedBy p = owned_by (board.axis axis) p go.owner in
-        subst (λ (a : Ownership). IsSame (position_by (was axis) a) (whole (free_position (part.axis axis)))) (sym owner)
-        (subst (λ (a : Ownership). IsSame (was axis p) (whole (free_position a))) (sym go.free) (let_go go))
+        subst (λ (a : Ownership). IsSame (position_by (was axis) a) (whole (resting_position part axis (part.axis axis)))) (sym owner)
+        (subst (λ (a : Ownership). IsSame (was axis p) (whole (resting_position part axis a))) (sym go.free) (let_go go))
   ]
     where
-      stays_free : (a : Ownership) → is_free a ≡ true → IsSame (position_by (was axis) a) (whole (free_position a))
+      stays_free : (a : Ownership) → is_free a ≡ true → IsSame (position_by (was axis) a) (whole (resting_position part axis a))
       stays_free (OwnedBy c) off = no_truth false off refl
       stays_free (FreeAt position) free = refl
 
@@ -142,7 +141,7 @@ module _ (job : JobView) (doings : Doings) (sound : IsSoundJob job) (are : AreSo
           ∙ event_stood job doings (start_sound job sound) state well p on end p (inl (eq-eqb p p refl)) axis)
 
   -- somebody takes it, or it stays free
-  free_after : (axis : ℕ) → is_free (part.axis axis) ≡ true → position_by (is axis) (final.axis axis) ≡ whole (free_position (part.axis axis))
+  free_after : (axis : ℕ) → is_free (part.axis axis) ≡ true → position_by (is axis) (final.axis axis) ≡ whole (resting_position part axis (part.axis axis))
   free_after axis free = elim (final_axis board p step zones on axis) [
     | inl same ↦ ap (position_by (is axis)) same ∙ stays_free (part.axis axis) free
     | inr takes ↦
@@ -154,7 +153,7 @@ module _ (job : JobView) (doings : Doings) (sound : IsSoundJob job) (are : AreSo
         ∙ ap (λ (o : Option ℤ). whole (unwrap_or o (stands_after job doings g.channel (stage.grants g.channel) axis))) (taken_told takes)
   ]
     where
-      stays_free : (a : Ownership) → is_free a ≡ true → position_by (is axis) a ≡ whole (free_position a)
+      stays_free : (a : Ownership) → is_free a ≡ true → position_by (is axis) a ≡ whole (resting_position part axis a)
       stays_free (OwnedBy c) off = no_truth false off refl
       stays_free (FreeAt position) free = refl
 
@@ -162,7 +161,7 @@ module _ (job : JobView) (doings : Doings) (sound : IsSoundJob job) (are : AreSo
       below takes = axis_below job sound axis (subst (λ (s : StartView). has_axis s axis ≡ true) keeps.start
           (part_known board p step (λ c x asked. subst (λ (s : StartView). has_axis s x ≡ true) (sym keeps.start) (keeps.known c x asked)) takes.going.channel axis takes.asked))
 
-      taken_told : (takes : Takes board p step zones on axis) → position_of takes.going.grant.at axis ≡ Some (free_position (part.axis axis))
+      taken_told : (takes : Takes board p step zones on axis) → position_of takes.going.grant.at axis ≡ Some (resting_position part axis (part.axis axis))
       taken_told takes = elim (told board p step zones on axis takes.going takes.within) [
         | inl start ↦ no_truth (among takes.going.took axis) takes.took start.1
         | inr other ↦ (other.1 takes.took).1 (below takes)

@@ -3,14 +3,13 @@ use Rattle.std.proofs.Common.{◌≡◌, ◌∙◌, ℕ, Bool, true, false, cond
 use Rattle.std.specs.Option.{option_map_or}
 use Rattle.std.proofs.lemmas.Bool.{cases_Bool, eqb-true, eq-eqb, ne_eqb}
 use Rattle.axis_sets.specs.Sets.{has, members_of}
-use Rattle.board_laws.proofs.Zones.{zones_step}
-use Rattle.board_laws.specs.Zones.{Zones}
 use Rattle.channel_machine.specs.StartStates.{start_of}
 use Rattle.job_types.specs.Job.{JobView}
 use Rattle.job_types.specs.declared.job.ZoneLine.{ZoneLine}
 use Rattle.schedule_laws.specs.Schedules.{IsRunOf}
 use Rattle.speed_laws.proofs.HandedAxes.{final_axis, part_axis, start_same}
 use Rattle.speed_laws.proofs.Histories.{none_in}
+use Rattle.speed_laws.proofs.RunBoards.{IsRunBoard, run_board_step}
 use Rattle.speed_laws.proofs.RunPlaces.{WellSpotted, opening_spotted, well_spotted}
 use Rattle.speed_laws.proofs.StepSpots.{HasEvent, Rests, begins_anew, event_or_rests, goes_rested, stage_next, zones_then}
 use Rattle.speed_laws.proofs.SwitchedZones.{first_has, held_before, on_after_step, owned_this}
@@ -30,7 +29,7 @@ use Rattle.sync_types.specs.declared.Item.{Item}
 use Rattle.sync_types.specs.declared.Step.{Step}
 
 -- what another channel holds before a step it holds after it
-module _ (b : Board) (p : ℕ) (step : Step) (zs : Zones b) (running : is_running (b.state p) ≡ true) where
+module _ (b : Board) (p : ℕ) (step : Step) (zs : IsRunBoard b) (running : is_running (b.state p) ≡ true) where
   owned_kept : (x d : ℕ) → owner_of (b.axis x) ≡ Some d → (p == d) ≡ false → owner_of ((after_step b p step).axis x) ≡ Some d
   owned_kept x d owned apart = elim (part_axis b p step x) [
     | inr go ↦ let both : Some p ≡ Some d = sym go.owner ∙ owned in let same : p ≡ d = cc in no_truth (p == d) (eq-eqb p d same) apart
@@ -50,16 +49,16 @@ module _ (b : Board) (p : ℕ) (step : Step) (zs : Zones b) (running : is_runnin
       same : (after_step b p step).start ≡ b.start
       same = start_same b p step zs running
 
-      zones_later : Zones (after_step b p step)
-      zones_later = zones_step b p step zs
+      zones_later : IsRunBoard (after_step b p step)
+      zones_later = run_board_step b p step zs
 
       by_first : (o : Option ℕ) → first_of (members_of (axes_of_zone b.start z)) ≡ o → (after_step b p step).holder z ≡ Some d
       by_first None is =
-          zones_later.bare z (ap (λ (s : StartView). first_of (members_of (axes_of_zone s z))) same ∙ is)
-          ∙ ap (λ (s : StartView). first_holder s z) same ∙ sym (zs.bare z is) ∙ held
+          zones_later.zones.bare z (ap (λ (s : StartView). first_of (members_of (axes_of_zone s z))) same ∙ is)
+          ∙ ap (λ (s : StartView). first_holder s z) same ∙ sym (zs.zones.bare z is) ∙ held
       by_first (Some x) is =
           let there : has (axes_of_zone b.start z) x ≡ true = first_has (axes_of_zone b.start z) x is in
-          sym (zones_later.owner z x (ap (λ (s : StartView). has (axes_of_zone s z) x) same ∙ there)) ∙ owned_kept x d (zs.owner z x there ∙ held) apart
+          sym (zones_later.zones.owner z x (ap (λ (s : StartView). has (axes_of_zone s z) x) same ∙ there)) ∙ owned_kept x d (zs.zones.owner z x there ∙ held) apart
 
 module _ (job : JobView) (doings : Doings) (start_sound : IsSound (start_of job)) (state : State) (well : WellSpotted job doings start_sound state) (p : ℕ)
     (on : is_running ((stage_in job doings state).board.state p) ≡ true) (end : IsAtEnd (items_now job doings state p) (spot_now job doings state p).place (spot_now job doings state p).point)
@@ -82,7 +81,7 @@ module _ (job : JobView) (doings : Doings) (start_sound : IsSound (start_of job)
   abbrev z : ℕ
   z = zone.zone
 
-  zones : Zones board
+  zones : IsRunBoard board
   zones = zones_then job doings start_sound state well p on
 
   abbrev Event : ℕ → Type 0

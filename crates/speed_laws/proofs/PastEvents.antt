@@ -4,9 +4,7 @@ use Rattle.std.proofs.lemmas.Bool.{eqb-true, ne_eqb, le-leb, leb-true, lt-leb}
 use Rattle.std.proofs.lemmas.List.{map-append}
 use Rattle.std.proofs.lemmas.List.Elements.{All-head, All-tail, filter-append}
 use Rattle.std.specs.List.{list_all}
-use Rattle.board_laws.proofs.Zones.{zones_first, zones_step}
 use Rattle.board_laws.specs.Machine.{Clock, State as Machine, with_value_at}
-use Rattle.board_laws.specs.Zones.{Zones}
 use Rattle.order_clocks.proofs.CounterLaws.{before_to, one_row}
 use Rattle.order_clocks.proofs.OrderLaws.{one_in, order_in}
 use Rattle.order_clocks.specs.Before.{Before}
@@ -27,6 +25,7 @@ use Rattle.schedule_laws.specs.Tracked.{actor, clocks_at, clocks_in, goes_in, ro
 use Rattle.speed_laws.proofs.ComparedPairs.{IsCut}
 use Rattle.speed_laws.proofs.Histories.{found_in, none_in}
 use Rattle.speed_laws.proofs.JoinedRuns.{moves_joined}
+use Rattle.speed_laws.proofs.RunBoards.{IsRunBoard, run_board_first, run_board_step}
 use Rattle.speed_laws.proofs.StepEvents.{as_goings, step_events}
 use Rattle.speed_laws.specs.Cuts.{RunsAreCuts, event_count}
 use Rattle.sync_types.proofs.Replays.{run_is_replay}
@@ -172,11 +171,11 @@ first_names b m ms i c =
         let f = found_in goings c g e in
         rw (e, there goings g f.0 f.1) (ap₂ (λ (n d : ℕ). record { step = n; channel = d; go = true } ∷ []) (let same : i ≡ i + 0 = omega arith in same) f.1)
 
-names_from : (ms : List Move) (b : Board) (i c : ℕ) → AreOfRunning b ms → Zones b → map own_name (filter (λ o. o.channel == c) (occurrences_from b i ms)) ≡ map (from_step i) (events_upto b ms c (length ms))
+names_from : (ms : List Move) (b : Board) (i c : ℕ) → AreOfRunning b ms → IsRunBoard b → map own_name (filter (λ o. o.channel == c) (occurrences_from b i ms)) ≡ map (from_step i) (events_upto b ms c (length ms))
 names_from [] b i c run zs = refl
 names_from (m ∷ ms) b i c run zs =
     let next = after_step b m.channel m.step in
-    let rest = names_from ms next (suc i) c run.1 (zones_step b m.channel m.step zs) in
+    let rest = names_from ms next (suc i) c run.1 (run_board_step b m.channel m.step zs) in
     let here = occurrences_in i m.step (happening_of b m.channel m.step) in
     let there = occurrences_from next (suc i) ms in
     ap (map own_name) (filter-append (λ o. o.channel == c) here there)
@@ -186,7 +185,7 @@ names_from (m ∷ ms) b i c run zs =
     ∙ ap (map (from_step i)) (sym (first_then b m ms c (length ms)))
 
 -- the events of a channel, by its own name
-pub own_names : (b : Board) (moves : List Move) (c : ℕ) → AreOfRunning b moves → Zones b → map own_name (filter (λ o. o.channel == c) (occurrences_of b moves)) ≡ events_of b moves c
+pub own_names : (b : Board) (moves : List Move) (c : ℕ) → AreOfRunning b moves → IsRunBoard b → map own_name (filter (λ o. o.channel == c) (occurrences_of b moves)) ≡ events_of b moves c
 unfolding occurrences_of
 own_names b moves c run zs = names_from moves b 0 c run zs ∙ shift_none (events_upto b moves c (length moves))
 
@@ -209,7 +208,7 @@ pub record PlaceTold (b : Board) (moves : List Move) (c k : ℕ) (e : EventId) :
   pub own : row (course_of b moves) e c ≡ suc k
   pub clock : (x : ℕ) → row (course_of b moves) e x ≡ clocks_at b moves (length moves) c (suc k) x
 
-pub place_told : (b : Board) (moves : List Move) (c k : ℕ) (o : OccurrenceView) → AreOfRunning b moves → Zones b → slice_get (filter (λ o. o.channel == c) (occurrences_of b moves)) k ≡ Some o → PlaceTold b moves c k o.name
+pub place_told : (b : Board) (moves : List Move) (c k : ℕ) (o : OccurrenceView) → AreOfRunning b moves → IsRunBoard b → slice_get (filter (λ o. o.channel == c) (occurrences_of b moves)) k ≡ Some o → PlaceTold b moves c k o.name
 place_told b moves c k o run zs is =
     let told = kept_holds (IsTold b moves) (λ p. p.channel == c) (occurrences_of b moves) k o (all_told b moves run) is in
     let same = one_row (course_of b moves) o.name (own_name o) (one_in b moves o.name (own_name o) told.own) in
@@ -333,7 +332,7 @@ module _ (script : Script) (start : StartView) (qs rs : List ℕ) (quiet : IsQui
   speaking_runs = (run_is_replay script (first_stage start) qs quiet.maximal.run).running
 
   told : (c k : ℕ) (o : OccurrenceView) → slice_get (filter (λ o. o.channel == c) (occurrences_of (first_board start) (moves_by script start qs))) k ≡ Some o → PlaceTold board speaking c k o.name
-  told c k o is = place_told board speaking c k o speaking_runs (zones_first start quiet.sound) is
+  told c k o is = place_told board speaking c k o speaking_runs (run_board_first start quiet.sound) is
 
   -- the first events of each channel are past
   pub first_are_past : (c k : ℕ) (o : OccurrenceView) → slice_get (filter (λ o. o.channel == c) (occurrences_of (first_board start) (moves_by script start qs))) k ≡ Some o → k < made_counts c

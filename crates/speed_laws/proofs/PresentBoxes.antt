@@ -2,8 +2,6 @@
 use Rattle.std.proofs.Common.{◌≡◌, ◌∙◌, ℕ, ℤ, ◌<◌, Bool, true, false, cond, ◌==◌, List, [], take, find, slice_index_or, None, Some, inl, inr, refl, sym, ap, ap₂, subst, arith}
 use Rattle.std.proofs.lemmas.Bool.{cases_Bool}
 use Rattle.axis_sets.specs.Sets.{has}
-use Rattle.board_laws.proofs.Zones.{zones_first}
-use Rattle.board_laws.specs.Zones.{Zones}
 use Rattle.channel_machine.specs.StartStates.{start_of}
 use Rattle.job_types.specs.Job.{JobView}
 use Rattle.job_types.specs.SoundJob.{IsSoundJob, IsSoundZone}
@@ -12,6 +10,7 @@ use Rattle.job_types.specs.declared.job.ZoneLine.{ZoneLine}
 use Rattle.number_laws.proofs.Lists.{SomeOf}
 use Rattle.number_laws.specs.Fractions.{Fraction, IsIn, whole}
 use Rattle.path_geometry.specs.Path.{Point}
+use Rattle.speed_laws.proofs.RunBoards.{IsRunBoard, run_board_first}
 use Rattle.zone_stretches.specs.SoundStretches.{IsZoneOf}
 use Rattle.zone_stretches.specs.Spans.{SpanStartView, entry_of_beginning, is_on_at_first}
 use Rattle.zone_stretches.specs.Stretches.{StretchView, free_stretch, stretch_of_span}
@@ -39,8 +38,7 @@ use Rattle.speed_laws.specs.Places.{IsAtPlace}
 use Rattle.speed_laws.specs.Safety.{on_now, on_with, owner_now, position_now, IsInZone, fraction_of}
 use Rattle.speed_laws.specs.SmallSteps.{begins_at, items_now, place_zero, runs, spot_now, Spot, State}
 use Rattle.swept_boxes.specs.Boxes.{SpacePoint}
-use Rattle.sync_types.specs.Boards.{Board, is_running, owner_of}
-use Rattle.sync_types.specs.GoingOn.{free_position}
+use Rattle.sync_types.specs.Boards.{Board, FreeAt, is_running, owner_of}
 use Rattle.sync_types.specs.Runs.{Stage, first_stage, stage_after}
 use Rattle.sync_types.specs.Starts.{axes_of_zone}
 use Rattle.sync_types.specs.Views.{RunView}
@@ -56,16 +54,16 @@ module _ (job : JobView) (doings : Doings) (sound : IsSoundJob job) (are : AreSo
   abbrev board : Board
   board = (stage_after doings.script (first_stage (start_of job)) state.run).board
 
-  zones_now : Zones board
-  zones_now = run_zones job doings quiet.sound state.run (first_stage (start_of job)) (zones_first (start_of job) quiet.sound)
+  zones_now : IsRunBoard board
+  zones_now = run_zones job doings quiet.sound state.run (first_stage (start_of job)) (run_board_first (start_of job) quiet.sound)
 
   start_now : board.start ≡ start_of job
-  start_now = (keeps_run doings.script (start_of job) (first_stage (start_of job)) state.run (zones_first (start_of job) quiet.sound) well.run (keeps_first (start_of job))).start
+  start_now = (keeps_run doings.script (start_of job) (first_stage (start_of job)) state.run (run_board_first (start_of job) quiet.sound) well.run (keeps_first (start_of job))).start
 
   -- its axes are its holder's
   carrier_owner : (axis : ℕ) → has_axis zone axis ≡ true → owner_of (board.axis axis) ≡ board.holder zone.zone
   carrier_owner axis carries =
-      zones_now.owner zone.zone axis (ap (λ s. has (axes_of_zone s zone.zone) axis) start_now ∙ there.axes axis ∙ carries)
+      zones_now.zones.owner zone.zone axis (ap (λ s. has (axes_of_zone s zone.zone) axis) start_now ∙ there.axes axis ∙ carries)
 
   within_by : (here : Point) → ((axis : ℕ) → has_axis zone axis ≡ true → position_now job doings state axis ≡ fraction_of here axis) → 0 < here.under
       → (low high : ℕ → ℤ) → AxesWithin zone low high here → FractionsWithin zone low high (position_now job doings state)
@@ -77,9 +75,9 @@ module _ (job : JobView) (doings : Doings) (sound : IsSoundJob job) (are : AreSo
   unfolding position_now owner_now
   held_position c held axis carries = rw (carrier_owner axis carries ∙ held) refl
 
-  free_there : board.holder zone.zone ≡ None → (axis : ℕ) → has_axis zone axis ≡ true → position_now job doings state axis ≡ whole (free_position (board.axis axis))
+  free_there : (axis : ℕ) (position : ℤ) → board.axis axis ≡ FreeAt position → position_now job doings state axis ≡ whole position
   unfolding position_now owner_now
-  free_there free axis carries = rw (carrier_owner axis carries ∙ free) refl
+  free_there axis position free = rw free refl
 
   held_on : (c : ℕ) → board.holder zone.zone ≡ Some c → on_now job doings state zone ≡ on_with job doings state zone c
   unfolding on_now
@@ -109,7 +107,7 @@ module _ (job : JobView) (doings : Doings) (sound : IsSoundJob job) (are : AreSo
     free_in_box free t stands =
         let here : Point = record { top = t.begins.at; under = 1 } in
         in_stretch job run (position_now job doings state) zone z.directions None t.begins t.last (entry_of_beginning t.begins) [] places 0 here tt
-        (within_by here (λ axis carries. free_there free axis carries ∙ ap whole (sym (stands.at axis carries))) (omega arith)) point in_zone
+        (within_by here (λ axis carries. free_there axis (t.begins.at axis) (stands.at axis carries)) (omega arith)) point in_zone
         (standing_covers zone (slice_index_or run.items (entry_of_beginning t.begins) []) t.begins.line t.begins.at (t.begins.on zone.zone) here (stands.on ∙ sym (free_on free) ∙ on) (λ axis carries. one_under (t.begins.at axis)))
 
     module _ (c : ℕ) (held : board.holder zone.zone ≡ Some c) (span : PresentSpan job doings qs state.run quiet well.run c) where
@@ -129,7 +127,7 @@ module _ (job : JobView) (doings : Doings) (sound : IsSoundJob job) (are : AreSo
       switched_there =
           ap (λ (f : ℕ → Bool). f zone.zone) span.on
           ∙ made_on doings zone.zone z.low_number z.high_number state.run (first_stage (start_of job)) 0 (items_by doings (first_stage (start_of job)) state.run) c (is_on_at_first job)
-          (zones_first (start_of job) quiet.sound) well.run first_switched held
+          (run_board_first (start_of job) quiet.sound) well.run first_switched held
 
       held_within : (here : Point) → (spot_now job doings state c).point ≡ here → 0 < here.under → (low high : ℕ → ℤ) → AxesWithin zone low high here → FractionsWithin zone low high (position_now job doings state)
       held_within here at some = within_by here (λ axis carries. held_position c held axis carries ∙ ap (λ (p : Point). fraction_of p axis) at) some

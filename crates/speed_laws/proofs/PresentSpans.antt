@@ -5,8 +5,6 @@ use Rattle.std.proofs.lemmas.List.{length-map}
 use Rattle.std.specs.List.{list_any}
 use Rattle.axis_sets.specs.Positions.{position_of}
 use Rattle.axis_sets.specs.Sets.{has}
-use Rattle.board_laws.proofs.Zones.{zones_first, zones_step}
-use Rattle.board_laws.specs.Zones.{Zones}
 use Rattle.channel_machine.specs.StartStates.{start_of}
 use Rattle.job_types.specs.Axes.{start_position}
 use Rattle.job_types.specs.Job.{JobView}
@@ -15,6 +13,7 @@ use Rattle.schedule_laws.specs.Schedules.{IsQuietRun, IsRunOf, moves_by}
 use Rattle.speed_laws.proofs.Histories.{Ahead, HistoryTold, at_end, history_told}
 use Rattle.speed_laws.proofs.JoinedRuns.{run_rest, stage_joined}
 use Rattle.speed_laws.proofs.PastEvents.{first_are_past, is_past, kept_holds, made_counts, others_are_not, own_names}
+use Rattle.speed_laws.proofs.RunBoards.{IsRunBoard, run_board_first, run_board_step}
 use Rattle.speed_laws.specs.Doings.{Doings}
 use Rattle.speed_laws.specs.Histories.{Telling, telling_of, act_telling, history, items_by}
 use Rattle.sync_types.proofs.Replays.{run_is_replay}
@@ -163,23 +162,23 @@ module _ (job : JobView) (doings : Doings) (qs rs : List ℕ) (quiet : IsQuietRu
   trivially n xs = let same : 0 + n ≡ n = omega arith in ap (λ (k : ℕ). slice_index_or xs k []) same
 
   made_told : (c : ℕ) → HistoryTold doings (first_stage start) rs 0 (items_by doings (first_stage start) rs) c
-  made_told c = history_told doings rs (first_stage start) 0 (items_by doings (first_stage start) rs) c (zones_first start quiet.sound) run (λ k. trivially k (items_by doings (first_stage start) rs))
+  made_told c = history_told doings rs (first_stage start) 0 (items_by doings (first_stage start) rs) c (run_board_first start quiet.sound) run (λ k. trivially k (items_by doings (first_stage start) rs))
 
   -- what the run makes that goes on from it
   abbrev spoken_rest : List ℕ
   spoken_rest = (speaks_of_states doings.script (start_of job) qs rs quiet run).alike.rest
 
-  board_zones : (cs : List ℕ) (s : Stage) → Zones s.board → Zones (stage_after doings.script s cs).board
+  board_zones : (cs : List ℕ) (s : Stage) → IsRunBoard s.board → IsRunBoard (stage_after doings.script s cs).board
   board_zones [] s zs = zs
-  board_zones (d ∷ cs) s zs = board_zones cs (after_turn doings.script s d) (zones_step s.board d (doings.script d (s.grants d)) zs)
+  board_zones (d ∷ cs) s zs = board_zones cs (after_turn doings.script s d) (run_board_step s.board d (doings.script d (s.grants d)) zs)
 
   rest_told : (c : ℕ) → HistoryTold doings stage spoken_rest 0 (items_by doings stage spoken_rest) c
   rest_told c =
-      history_told doings spoken_rest stage 0 (items_by doings stage spoken_rest) c (board_zones rs (first_stage start) (zones_first start quiet.sound))
+      history_told doings spoken_rest stage 0 (items_by doings stage spoken_rest) c (board_zones rs (first_stage start) (run_board_first start quiet.sound))
       (run_rest doings.script (first_stage start) rs spoken_rest (speaks_of_states doings.script start qs rs quiet run).alike.maximal.run) (λ k. trivially k (items_by doings stage spoken_rest))
 
   speaking_told : (c : ℕ) → HistoryTold doings (first_stage start) qs 0 rows c
-  speaking_told c = history_told doings qs (first_stage start) 0 rows c (zones_first start quiet.sound) quiet.maximal.run (λ k. trivially k rows)
+  speaking_told c = history_told doings qs (first_stage start) 0 rows c (run_board_first start quiet.sound) quiet.maximal.run (λ k. trivially k rows)
 
   end : Stage
   end = stage_after doings.script (first_stage start) qs
@@ -257,7 +256,7 @@ module _ (job : JobView) (doings : Doings) (qs rs : List ℕ) (quiet : IsQuietRu
   counts_told c =
       let moves = moves_by doings.script start rs in
       let events = filter (λ o. o.channel == c) (occurrences_from (first_board start) 0 moves) in
-      ap length (sym (own_names (first_board start) moves c (run_is_replay doings.script (first_stage start) rs run).running (zones_first start quiet.sound)))
+      ap length (sym (own_names (first_board start) moves c (run_is_replay doings.script (first_stage start) rs run).running (run_board_first start quiet.sound)))
       ∙ length-map events own_name ∙ sym (length-map events (telling_of (items_by doings (first_stage start) rs)))
 
   pub present_span : (c : ℕ) → among channel_numbers c ≡ true → PresentSpan c

@@ -1,7 +1,6 @@
 -- Each zone is in a stretch of the run that speaks for all that is current.
 use Rattle.std.proofs.Common.{◌≡◌, ◌⊎◌, ◌∙◌, ℕ, zero, suc, ◌+◌, ◌-◌, ◌<◌, ◌≤◌, Bool, true, false, ◌==◌, List, [], ◌∷◌, All, filter, map, take, drop, slice_get, Contains, Option, None, Some, IfSome, inl, inr, refl, sym, ap, subst, arith}
 use Rattle.std.proofs.lemmas.List.Elements.{All-contains, All-head, All-tail}
-use Rattle.board_laws.proofs.Zones.{zones_first}
 use Rattle.channel_machine.specs.StartStates.{start_of}
 use Rattle.job_types.specs.Job.{JobView}
 use Rattle.job_types.specs.Zones.{zones_in_order}
@@ -12,6 +11,7 @@ use Rattle.speed_laws.proofs.ComparedPairs.{IsCurrent}
 use Rattle.speed_laws.proofs.PastEvents.{first_are_past, is_past, kept_holds, made_counts, others_are_not}
 use Rattle.speed_laws.proofs.PresentSpans.{PresentSpan, present_span}
 use Rattle.speed_laws.proofs.PresentTenures.{BeginsWithLast, BegunBy, EndedBy, IsPresent, holder_known, present_tenure}
+use Rattle.speed_laws.proofs.RunBoards.{run_board_first}
 use Rattle.speed_laws.proofs.StartZones.{zones_start}
 use Rattle.speed_laws.specs.Cuts.{ZonesHavePresentStretches, is_made}
 use Rattle.speed_laws.specs.Doings.{Doings}
@@ -144,7 +144,7 @@ module _ (job : JobView) (doings : Doings) (qs rs : List ℕ) (quiet : IsQuietRu
       SomeOf-flat_map Wanted (stretches_in_tenure job zone spans) (tenures_of job events zone)
       (some_where (λ t. Present t × BeginsLast t) (EndsItself spans) (λ t. SomeOf Wanted (stretches_in_tenure job zone spans t)) (by_holder holder refl) (tenures_of job events zone)
       (present_tenure job doings.script qs rs quiet run zone there)
-      (spans_end_with_tenures job (start_of job) (items_by doings (first_stage (start_of job)) qs) (moves_by doings.script (start_of job) qs) zone (zones_first (start_of job) quiet.sound) there))
+      (spans_end_with_tenures job (start_of job) (items_by doings (first_stage (start_of job)) qs) (moves_by doings.script (start_of job) qs) zone (run_board_first (start_of job) quiet.sound).zones there))
     where
       by_holder : (o : Option ℕ) → holder ≡ o → (t : TenureView) → Present t × BeginsLast t → EndsItself spans t → SomeOf Wanted (stretches_in_tenure job zone spans t)
       by_holder None is t found ends = free_now is t found.0 found.1

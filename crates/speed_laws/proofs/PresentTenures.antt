@@ -4,10 +4,8 @@ use Rattle.std.proofs.lemmas.Bool.{and_from, and_parts, cases_Bool}
 use Rattle.std.proofs.lemmas.List.Elements.{All-nil, All-cons, All-append, All-head, All-map, All-tail}
 use Rattle.axis_sets.specs.Positions.{stands}
 use Rattle.axis_sets.specs.Sets.{has}
-use Rattle.board_laws.proofs.Zones.{zones_first, zones_goes, zones_part, zones_step}
 use Rattle.board_laws.specs.Machine.{Cell, Place, State as Machine}
 use Rattle.board_laws.specs.Machine as machine
-use Rattle.board_laws.specs.Zones.{Zones}
 use Rattle.channel_machine.specs.StartStates.{start_of}
 use Rattle.job_types.specs.Job.{JobView}
 use Rattle.job_types.specs.Zones.{has_axis}
@@ -15,6 +13,7 @@ use Rattle.job_types.specs.declared.job.ZoneLine.{ZoneLine}
 use Rattle.number_laws.proofs.Lists.{SomeOf, SomeOf-weaker}
 use Rattle.order_clocks.specs.Chains.{IsIn}
 use Rattle.order_clocks.specs.Happenings.{happening_of}
+use Rattle.speed_laws.proofs.RunBoards.{IsRunBoard, run_board_first, run_board_goes, run_board_part, run_board_step}
 use Rattle.zone_stretches.proofs.HandLaws.{HandsAre, IsFor, carry_from, carry_to, owner_next, owners-append, owners_next, run_hands, step_hands}
 use Rattle.zone_stretches.proofs.HandLaws.{carry_none}
 use Rattle.zone_stretches.specs.Occurrences.{OccurrenceView, act_of, going_on_of, occurrences_in, occurrences_from, occurrences_of}
@@ -50,31 +49,31 @@ part_start b p step = by_alarm (alarm_of b p step.action)
     by_alarm (Some code) = refl
     by_alarm None = refl
 
-going_takes : (b : Board) (p : ℕ) (step : Step) (zone : ZoneLine) (x : ℕ) → Zones b → is_running (b.state p) ≡ true → IsFor zone b → has_axis zone x ≡ true
+going_takes : (b : Board) (p : ℕ) (step : Step) (zone : ZoneLine) (x : ℕ) → IsRunBoard b → is_running (b.state p) ≡ true → IsFor zone b → has_axis zone x ≡ true
     → (g : Going) → IsIn g (goings_in_step b p step) → carry zone (among g.took) ≡ true → (among g.took x ≡ true) × (among channel_numbers g.channel ≡ true)
 going_takes b p step zone x zs running for carries g within on =
     let w = carry_from zone (among g.took) on in
     let t = taker_in b p step zs running w.0 g within w.2 in
     let before : Board = after_goes (after_own_part b p step) in
-    let whole : Zones before = zones_goes (after_own_part b p step) (zones_part b p step zs) in
+    let whole : IsRunBoard before = run_board_goes (after_own_part b p step) (run_board_part b p step zs) in
     let start : before.start ≡ b.start = part_start b p step in
     let has_w : has (axes_of_zone before.start zone.zone) w.0 ≡ true = ap (λ (s : StartView). has (axes_of_zone s zone.zone) w.0) start ∙ for w.0 ∙ w.1 in
     let has_x : has (axes_of_zone before.start zone.zone) x ≡ true = ap (λ (s : StartView). has (axes_of_zone s zone.zone) x) start ∙ for x ∙ carries in
     let both = and_parts _ _ (sym (t.took w.0) ∙ w.2) in
-    let asked : among (axes_asked (before.state g.channel)) x ≡ true = sym (whole.asks g.channel zone.zone w.0 x has_w has_x) ∙ both.0 in
+    let asked : among (axes_asked (before.state g.channel)) x ≡ true = sym (whole.zones.asks g.channel zone.zone w.0 x has_w has_x) ∙ both.0 in
     let other : not (owns before g.channel x) ≡ true =
-    ap (λ (o : Option ℕ). not (is_this o g.channel)) (whole.owner zone.zone x has_x ∙ sym (whole.owner zone.zone w.0 has_w)) ∙ both.1 in
+    ap (λ (o : Option ℕ). not (is_this o g.channel)) (whole.zones.owner zone.zone x has_x ∙ sym (whole.zones.owner zone.zone w.0 has_w)) ∙ both.1 in
     (t.took x ∙ and_from (among (axes_asked (before.state g.channel)) x) (not (owns before g.channel x)) asked other, t.listed)
 
 -- along a run
-pub run_takes : (ms : List Move) (b : Board) (zone : ZoneLine) (i x : ℕ) (carries : has_axis zone x ≡ true) → Zones b → IsFor zone b → AreOfRunning b ms → All (TakesAll zone x carries) (occurrences_from b i ms)
+pub run_takes : (ms : List Move) (b : Board) (zone : ZoneLine) (i x : ℕ) (carries : has_axis zone x ≡ true) → IsRunBoard b → IsFor zone b → AreOfRunning b ms → All (TakesAll zone x carries) (occurrences_from b i ms)
 run_takes [] b zone i x carries zs for run = All-nil (TakesAll zone x carries)
 run_takes (m ∷ ms) b zone i x carries zs for run =
     All-append (TakesAll zone x carries) (occurrences_in i m.step (happening_of b m.channel m.step)) (occurrences_from (after_step b m.channel m.step) (suc i) ms)
     (All-cons (TakesAll zone x carries) (act_of i m.step (happening_of b m.channel m.step)) (map (going_on_of i goings) goings)
     (λ on. no_truth (carry zone (λ axis. false)) on (carry_none zone))
     (All-map (TakesAll zone x carries) (going_on_of i goings) goings (each goings (λ g within. within))))
-    (run_takes ms (after_step b m.channel m.step) zone (suc i) x carries (zones_step b m.channel m.step zs) (step_hands b m zone i zs for).2 run.1)
+    (run_takes ms (after_step b m.channel m.step) zone (suc i) x carries (run_board_step b m.channel m.step zs) (step_hands b m zone i zs.robs_nobody zs.zones for).2 run.1)
   where
     goings : List Going
     goings = goings_in_step b m.channel m.step
@@ -86,13 +85,13 @@ run_takes (m ∷ ms) b zone i x carries zs for run =
         (each gs (λ h there. within h (inr there)))
 
 -- who holds the zone at the end
-run_owner : (ms : List Move) (b : Board) (zone : ZoneLine) (i : ℕ) → Zones b → IsFor zone b → owners_next zone (b.holder zone.zone) (occurrences_from b i ms) ≡ (after_moves b ms).holder zone.zone
+run_owner : (ms : List Move) (b : Board) (zone : ZoneLine) (i : ℕ) → IsRunBoard b → IsFor zone b → owners_next zone (b.holder zone.zone) (occurrences_from b i ms) ≡ (after_moves b ms).holder zone.zone
 run_owner [] b zone i zs for = refl
 run_owner (m ∷ ms) b zone i zs for =
-    let here = step_hands b m zone i zs for in
+    let here = step_hands b m zone i zs.robs_nobody zs.zones for in
     owners-append zone (b.holder zone.zone) (occurrences_in i m.step (happening_of b m.channel m.step)) (occurrences_from (after_step b m.channel m.step) (suc i) ms)
     ∙ ap (λ (w : Option ℕ). owners_next zone w (occurrences_from (after_step b m.channel m.step) (suc i) ms)) here.1
-    ∙ run_owner ms (after_step b m.channel m.step) zone (suc i) (zones_step b m.channel m.step zs) here.2
+    ∙ run_owner ms (after_step b m.channel m.step) zone (suc i) (run_board_step b m.channel m.step zs) here.2
 
 pub events_joined : (ms ns : List Move) (b : Board) (i : ℕ) → occurrences_from b i (ms ++ ns) ≡ occurrences_from b i ms ++ occurrences_from (after_moves b ms) (i + length ms) ns
 events_joined [] ns b i = let same : i ≡ i + 0 = omega arith in ap (λ (n : ℕ). occurrences_from b n ns) same
@@ -207,8 +206,8 @@ module _ (job : JobView) (script : Script) (qs rs : List ℕ) (quiet : IsQuietRu
   abbrev holder : Option ℕ
   holder = (stage_after script (first_stage (start_of job)) rs).board.holder zone.zone
 
-  zones : Zones board
-  zones = zones_first (start_of job) quiet.sound
+  zones : IsRunBoard board
+  zones = run_board_first (start_of job) quiet.sound
 
   for : IsFor zone board
   for x = there.axes x
@@ -254,11 +253,11 @@ module _ (job : JobView) (script : Script) (qs rs : List ℕ) (quiet : IsQuietRu
       let joined : whole ≡ made ++ rest = moves_joined script (first_stage (start_of job)) rs spoken.alike.rest in
       let whole_runs : AreOfRunning board whole = (run_is_replay script (first_stage (start_of job)) (rs ++ spoken.alike.rest) spoken.alike.maximal.run).running in
       let first : machine.Tenure = record { owner = owner_of (board.axis x); first = None; last = None; from = 0; upto = 0 } in
-      let owned : owner_of (board.axis x) ≡ board.holder zone.zone = zones.owner zone.zone x (for x ∙ carries) in
+      let owned : owner_of (board.axis x) ≡ board.holder zone.zone = zones.zones.owner zone.zone x (for x ∙ carries) in
       let begin : IsNewest zone x carries (λ d. 0) (board.holder zone.zone) (first ∷ []) =
       record { tenure = first; older = []; are = refl; owned = owned; lasting = refl; from = from_zero (owner_of (board.axis x)); first = tt } in
-      let now = newest zone x carries (occurrences_from board 0 made) (λ d. 0) (board.holder zone.zone) (first ∷ []) begin (run_hands made board zone 0 zones for) (run_takes made board zone 0 x carries zones for made_runs) in
-      let began = newest_began zone x carries (occurrences_from board 0 made) (occurrences_from board 0 made) (λ d. 0) (board.holder zone.zone) first [] None tt first_known (run_hands made board zone 0 zones for)
+      let now = newest zone x carries (occurrences_from board 0 made) (λ d. 0) (board.holder zone.zone) (first ∷ []) begin (run_hands made board zone 0 zones.robs_nobody zones.zones for) (run_takes made board zone 0 x carries zones for made_runs) in
+      let began = newest_began zone x carries (occurrences_from board 0 made) (occurrences_from board 0 made) (λ d. 0) (board.holder zone.zone) first [] None tt first_known (run_hands made board zone 0 zones.robs_nobody zones.zones for)
       (run_takes made board zone 0 x carries zones for made_runs) (places_from (occurrences_from board 0 made)) now.tenure now.older now.are in
       let later = occurrences_from (after_moves board made) (0 + length made) rest in
       let total : (d : ℕ) → counts_after (λ c. 0) (occurrences_from board 0 made) d ≡ counts d = λ d. counts_read board made d zones made_runs ∙ sym (events_told board made d (length made) (omega arith)).count in
@@ -273,7 +272,7 @@ module _ (job : JobView) (script : Script) (qs rs : List ℕ) (quiet : IsQuietRu
       subst (λ (ts : List machine.Tenure). IsIn last.tenure ts) (in_whole ∙ same_end ∙ sym (tenures_read board speaking x zones speaking_runs)) last.within in
       let read = each_read zone x carries (occurrences_from board 0 speaking) (first_tenure job zone).begins (occurrences_from board 0 speaking) (λ c. 0) (first_tenure job zone) first [] refl
       (record { owner = sym there.holder ∙ sym owned; from = refl; begins = refl; ends = (refl, refl) })
-      (subst (λ (w : Option ℕ). HandsAre zone w (occurrences_from board 0 speaking)) there.holder (run_hands speaking board zone 0 zones for))
+      (subst (λ (w : Option ℕ). HandsAre zone w (occurrences_from board 0 speaking)) there.holder (run_hands speaking board zone 0 zones.robs_nobody zones.zones for))
       (run_takes speaking board zone 0 x carries zones for speaking_runs)
       (places_from (occurrences_from board 0 speaking))
       last.tenure in_speaking in
@@ -337,7 +336,7 @@ owner_known zone x carries (o ∷ os) owner takes known =
 pub holder_known : (start : StartView) (script : Script) (cs : List ℕ) (zone : ZoneLine) → IsSound start → HasChannelNumbers start → IsRunOf script start cs → IsZoneOf start zone
     → (c : ℕ) → (stage_after script (first_stage start) cs).board.holder zone.zone ≡ Some c → among channel_numbers c ≡ true
 holder_known start script cs zone sound numbers run there c is =
-    let zs = zones_first start sound in
+    let zs = run_board_first start sound in
     let replay = run_is_replay script (first_stage start) cs run in
     let moves = moves_by script start cs in
     let end : owners_next zone (first_holder start zone.zone) (occurrences_from (first_board start) 0 moves) ≡ (stage_after script (first_stage start) cs).board.holder zone.zone =

@@ -3,8 +3,6 @@ use Rattle.std.proofs.Common.{◌≡◌, ◌⊎◌, ◌∙◌, ℕ, ℤ, ◌+◌
 use Rattle.std.proofs.lemmas.Bool.{cases_Bool, cases_eq, eq-eqb, ne_eqb}
 use Rattle.std.proofs.lemmas.List.{length-map}
 use Rattle.std.proofs.lemmas.List.Elements.{filter-append}
-use Rattle.board_laws.proofs.Zones.{zones_first, zones_step}
-use Rattle.board_laws.specs.Zones.{Zones}
 use Rattle.channel_machine.specs.StartStates.{start_of}
 use Rattle.job_types.specs.Job.{JobView}
 use Rattle.order_clocks.specs.Happenings.{going_of, happening_of}
@@ -14,6 +12,7 @@ use Rattle.speed_laws.proofs.Histories.{none_in}
 use Rattle.speed_laws.proofs.JoinedRuns.{moves_joined, run_more, stage_joined}
 use Rattle.speed_laws.proofs.PastEvents.{own_names}
 use Rattle.speed_laws.proofs.PresentTenures.{events_joined}
+use Rattle.speed_laws.proofs.RunBoards.{IsRunBoard, run_board_first, run_board_step}
 use Rattle.speed_laws.proofs.StepEvents.{as_goings, kept_state, not_started, part_other, step_events}
 use Rattle.speed_laws.specs.Doings.{Doings, stands_after, stands_before}
 use Rattle.speed_laws.specs.Places.{IsAtPlace}
@@ -33,7 +32,7 @@ use Rattle.zone_stretches.specs.Occurrences.{OccurrenceView, act_of, going_on_of
 -- ---- one step more
 
 -- a channel has an event in the step, or does and has what it did and had
-step_keeps : (doings : Doings) (stage : Stage) (p i c : ℕ) → Zones stage.board → is_running (stage.board.state p) ≡ true
+step_keeps : (doings : Doings) (stage : Stage) (p i c : ℕ) → IsRunBoard stage.board → is_running (stage.board.state p) ≡ true
     → (0 < length (filter (λ o. o.channel == c) (occurrences_in i (doings.script p (stage.grants p)) (happening_of stage.board p (doings.script p (stage.grants p))))))
     ⊎ ((length (filter (λ o. o.channel == c) (occurrences_in i (doings.script p (stage.grants p)) (happening_of stage.board p (doings.script p (stage.grants p))))) ≡ 0)
     × ((after_turn doings.script stage p).board.state c ≡ stage.board.state c) × ((after_turn doings.script stage p).grants c ≡ stage.grants c))
@@ -68,16 +67,16 @@ module _ (job : JobView) (doings : Doings) (sound : IsSound (start_of job)) wher
   abbrev first : Stage
   first = first_stage (start_of job)
 
-  pub run_zones : (cs : List ℕ) (s : Stage) → Zones s.board → Zones (stage_after doings.script s cs).board
+  pub run_zones : (cs : List ℕ) (s : Stage) → IsRunBoard s.board → IsRunBoard (stage_after doings.script s cs).board
   run_zones [] s zs = zs
-  run_zones (d ∷ cs) s zs = run_zones cs (after_turn doings.script s d) (zones_step s.board d (doings.script d (s.grants d)) zs)
+  run_zones (d ∷ cs) s zs = run_zones cs (after_turn doings.script s d) (run_board_step s.board d (doings.script d (s.grants d)) zs)
 
   -- the number of a span is that of the channel's events
   span_counts : (cs : List ℕ) (c : ℕ) → IsRunOf doings.script (start_of job) cs
       → length (events_of (first_board (start_of job)) (moves_by doings.script (start_of job) cs) c) ≡ length (filter (λ o. o.channel == c) (occurrences_from (first_board (start_of job)) 0 (moves_by doings.script (start_of job) cs)))
   unfolding occurrences_of
   span_counts cs c run =
-      ap length (sym (own_names (first_board (start_of job)) (moves_by doings.script (start_of job) cs) c (run_is_replay doings.script first cs run).running (zones_first (start_of job) sound)))
+      ap length (sym (own_names (first_board (start_of job)) (moves_by doings.script (start_of job) cs) c (run_is_replay doings.script first cs run).running (run_board_first (start_of job) sound)))
       ∙ length-map (filter (λ o. o.channel == c) (occurrences_from (first_board (start_of job)) 0 (moves_by doings.script (start_of job) cs))) own_name
 
   -- one more step adds the events of the channel in it
@@ -116,7 +115,7 @@ module _ (job : JobView) (doings : Doings) (sound : IsSound (start_of job)) wher
       let stage = stage_after doings.script first cs in
       let added = spans_add cs p c run on in
       let joined = stage_joined doings.script first cs (p ∷ []) in
-      elim (step_keeps doings stage p (length (moves_by doings.script (start_of job) cs)) c (run_zones cs first (zones_first (start_of job) sound)) on) [
+      elim (step_keeps doings stage p (length (moves_by doings.script (start_of job) cs)) c (run_zones cs first (run_board_first (start_of job) sound)) on) [
         | inl some ↦ inl (omega (arith, some, added))
         | inr none ↦
             let zero_more = none.0 in

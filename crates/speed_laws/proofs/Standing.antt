@@ -5,8 +5,6 @@ use Rattle.std.proofs.lemmas.Bool.{cases_Bool, eqb-true, eq-eqb, ne_eqb}
 use Rattle.std.proofs.lemmas.List.{map-append}
 use Rattle.std.proofs.lemmas.List.Elements.{filter-append}
 use Rattle.axis_sets.specs.Positions.{position_of}
-use Rattle.board_laws.proofs.Zones.{zones_first, zones_step}
-use Rattle.board_laws.specs.Zones.{Zones}
 use Rattle.channel_machine.specs.StartStates.{start_of}
 use Rattle.job_types.specs.Axes.{start_position}
 use Rattle.job_types.specs.Job.{JobView}
@@ -17,6 +15,7 @@ use Rattle.speed_laws.proofs.Grants.{first_grant, granted_there}
 use Rattle.speed_laws.proofs.Histories.{found_in, none_in}
 use Rattle.speed_laws.proofs.JoinedRuns.{run_first, run_rest, stage_joined}
 use Rattle.speed_laws.proofs.PresentSpans.{at_after}
+use Rattle.speed_laws.proofs.RunBoards.{IsRunBoard, run_board_first, run_board_step}
 use Rattle.speed_laws.proofs.StepEvents.{ActorTold, actor_told, as_goings, goes_on, goes_waited, kept_state, not_started, part_other, step_events}
 use Rattle.speed_laws.specs.DoingLaws.{TellsWhereAxesStand, TellWhereAxesStand}
 use Rattle.speed_laws.specs.Doings.{Doings, stands_with, stands_before, stands_after}
@@ -59,7 +58,7 @@ module _ (job : JobView) (doings : Doings) where
 
   -- ---- one step
 
-  module _ (stage : Stage) (p i : ℕ) (rows : List (List Item)) (zs : Zones stage.board) (running : is_running (stage.board.state p) ≡ true) (tells : TellsWhereAxesStand job doings p (stage.grants p)) where
+  module _ (stage : Stage) (p i : ℕ) (rows : List (List Item)) (zs : IsRunBoard stage.board) (running : is_running (stage.board.state p) ≡ true) (tells : TellsWhereAxesStand job doings p (stage.grants p)) where
     abbrev step : Step
     step = doings.script p (stage.grants p)
 
@@ -141,7 +140,7 @@ module _ (job : JobView) (doings : Doings) where
   AllTell stage [] = Unit {0}
   AllTell stage (p ∷ cs) = TellsWhereAxesStand job doings p (stage.grants p) × AllTell (after_turn doings.script stage p) cs
 
-  all_stand : (cs : List ℕ) (stage : Stage) (i : ℕ) (rows : List (List Item)) (c : ℕ) → Zones stage.board → IsRun doings.script stage cs → AllTell stage cs
+  all_stand : (cs : List ℕ) (stage : Stage) (i : ℕ) (rows : List (List Item)) (c : ℕ) → IsRunBoard stage.board → IsRun doings.script stage cs → AllTell stage cs
       → at_after (stands_at c (is_running (stage.board.state c)) (stage.grants c)) (map (telling_of rows) (filter (λ o. o.channel == c) (occurrences_from stage.board i (moves_of doings.script stage cs))))
       ≡ stands_at c (is_running ((stage_after doings.script stage cs).board.state c)) ((stage_after doings.script stage cs).grants c)
   all_stand [] stage i rows c zs run tell = refl
@@ -156,7 +155,7 @@ module _ (job : JobView) (doings : Doings) where
       ∙ at_append at (map (telling_of rows) here) (map (telling_of rows) there)
       ∙ ap (λ (os : List OccurrenceView). at_after (at_after at (map (telling_of rows) os)) (map (telling_of rows) there)) (step_events stage.board p step i c run.0 zs)
       ∙ ap (λ (f : ℕ → ℤ). at_after f (map (telling_of rows) there)) (step_stands stage p i rows zs run.0 tell.0 c ∙ ap (stands_at c (is_running (next.board.state c))) (sym (grants_next stage p i rows zs run.0 tell.0 c)))
-      ∙ all_stand cs next (suc i) rows c (zones_step stage.board p step zs) run.1 tell.1
+      ∙ all_stand cs next (suc i) rows c (run_board_step stage.board p step zs) run.1 tell.1
 
   -- in every run
   tell_rest : TellWhereAxesStand job doings → (xs ys : List ℕ) → IsRunOf doings.script (start_of job) (xs ++ ys) → AllTell (stage_after doings.script (first_stage (start_of job)) xs) ys
@@ -188,4 +187,4 @@ module _ (job : JobView) (doings : Doings) where
       ≡ stands_at c (is_running ((stage_after doings.script (first_stage (start_of job)) cs).board.state c)) ((stage_after doings.script (first_stage (start_of job)) cs).grants c)
   made_stand sound tell cs sound_start run rows c =
       ap (λ (at : ℕ → ℤ). at_after at (map (telling_of rows) (filter (λ o. o.channel == c) (occurrences_from (first_board (start_of job)) 0 (moves_of doings.script (first_stage (start_of job)) cs))))) (sym (stand_first sound tell c))
-      ∙ all_stand cs (first_stage (start_of job)) 0 rows c (zones_first (start_of job) sound_start) run (tell_rest tell [] cs run)
+      ∙ all_stand cs (first_stage (start_of job)) 0 rows c (run_board_first (start_of job) sound_start) run (tell_rest tell [] cs run)

@@ -5,14 +5,13 @@ use Rattle.std.specs.Prelude.{is_some}
 use Rattle.std.proofs.lemmas.Bool.{and_parts, cases_Bool, eqb-true, eq-eqb, ne_eqb}
 use Rattle.axis_sets.specs.Positions.{position_of}
 use Rattle.board_laws.proofs.Takings.{IsOf, AllTaken, all_taken}
-use Rattle.board_laws.proofs.Zones.{zones_goes, zones_part}
-use Rattle.board_laws.specs.Zones.{Zones}
 use Rattle.order_clocks.proofs.DepartLaws.{goers_among, going_there, takings_take}
 use Rattle.order_clocks.proofs.MemberLaws.{in_append}
 use Rattle.order_clocks.proofs.ReadLaws.{no_alarm, part_acts, part_alarms, part_waits, started_idle, started_waits}
 use Rattle.order_clocks.specs.Chains.{IsIn}
 use Rattle.order_clocks.specs.Happenings.{going_of, happening_of}
 use Rattle.order_clocks.specs.Watching.{wait_in}
+use Rattle.speed_laws.proofs.RunBoards.{IsRunBoard, run_board_goes, run_board_part}
 use Rattle.sync_types.proofs.BoardTests.{among_kept, no_truth}
 use Rattle.sync_types.specs.BoardActions.{after_effects, after_own_part, channels_started, channels_to_start, hold_of, state_after_action, state_after_alarm, state_of_actor}
 use Rattle.sync_types.specs.BoardAlarms.{alarm_of}
@@ -68,7 +67,7 @@ or_off false q off = (refl, off)
 
 -- ---- one step
 
-module _ (b : Board) (p : ℕ) (step : Step) (zs : Zones b) (running : is_running (b.state p) ≡ true) where
+module _ (b : Board) (p : ℕ) (step : Step) (zs : IsRunBoard b) (running : is_running (b.state p) ≡ true) where
   abbrev part : Board
   part = after_own_part b p step
 
@@ -79,7 +78,10 @@ module _ (b : Board) (p : ℕ) (step : Step) (zs : Zones b) (running : is_runnin
   goings = goings_in_step b p step
 
   pub taken : AllTaken (after_goes part) (all_takings (after_goes part))
-  taken = all_taken CHANNEL_LIMIT (after_goes part) (zones_goes part (zones_part b p step zs))
+  taken = all_taken CHANNEL_LIMIT (after_goes part) before.zones before.robs_nobody
+    where
+      before : IsRunBoard (after_goes part)
+      before = run_board_goes part (run_board_part b p step zs)
 
   -- who is started was idle
   pub started_was : (c : ℕ) → among starts c ≡ true → (is_idle (b.state c) ≡ true) × (alarm_of b p step.action ≡ None)
@@ -291,7 +293,7 @@ going_events i c all (g ∷ gs) = by_test (g.channel == c) (going_events i c all
     by_test false rest = rest
 
 -- in the step of a channel: its act, and that it goes on
-pub step_events : (b : Board) (p : ℕ) (step : Step) (i c : ℕ) → is_running (b.state p) ≡ true → Zones b
+pub step_events : (b : Board) (p : ℕ) (step : Step) (i c : ℕ) → is_running (b.state p) ≡ true → IsRunBoard b
     → filter (λ o. o.channel == c) (occurrences_in i step (happening_of b p step))
     ≡ cond (p == c) (act_of i step (happening_of b p step) ∷ []) [] ++ map (going_on_of i (goings_in_step b p step)) (as_goings (going_of (goings_in_step b p step) c))
 step_events b p step i c running zs =

@@ -3,11 +3,10 @@ use Rattle.std.proofs.Common.{◌≡◌, ◌⊎◌, ◌∙◌, ℕ, ℤ, ◌+◌
 use Rattle.std.proofs.lemmas.Bool.{cases_Bool, eqb-true, eq-eqb, ne_eqb}
 use Rattle.std.specs.Option.{option_map_or}
 use Rattle.axis_sets.specs.Positions.{position_of}
-use Rattle.board_laws.proofs.Zones.{zones_first}
-use Rattle.board_laws.specs.Zones.{Zones}
 use Rattle.channel_machine.specs.StartStates.{start_of}
 use Rattle.job_types.specs.Job.{JobView}
 use Rattle.order_clocks.specs.Happenings.{going_of, happening_of}
+use Rattle.speed_laws.proofs.RunBoards.{IsRunBoard, run_board_first}
 use Rattle.zone_stretches.specs.Occurrences.{OccurrenceView, act_of, going_on_of, occurrences_in}
 use Rattle.schedule_laws.specs.Schedules.{moves_by}
 use Rattle.speed_laws.proofs.Histories.{found_in}
@@ -58,8 +57,8 @@ module _ (job : JobView) (doings : Doings) (start_sound : IsSound (start_of job)
   abbrev pub acted : State
   acted = record { run = state.run ++ p ∷ []; spots = state.spots }
 
-  pub zones_then : Zones (stage_in job doings state).board
-  zones_then = run_zones job doings start_sound state.run (first_stage (start_of job)) (zones_first (start_of job) start_sound)
+  pub zones_then : IsRunBoard (stage_in job doings state).board
+  zones_then = run_zones job doings start_sound state.run (first_stage (start_of job)) (run_board_first (start_of job) start_sound)
 
   pub stage_next : stage_in job doings acted ≡ after_turn doings.script (stage_in job doings state) p
   stage_next = stage_joined doings.script (first_stage (start_of job)) state.run (p ∷ [])

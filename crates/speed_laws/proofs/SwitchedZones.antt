@@ -8,9 +8,7 @@ use Rattle.std.proofs.lemmas.List.FromFn.{get_or-map-range_with_len}
 use Rattle.axis_sets.proofs.SetLaws.{list_any-members_of}
 use Rattle.axis_sets.specs.Sets.{has, members_of}
 use Rattle.board_laws.proofs.Takings.{IsOf, taker_grant}
-use Rattle.board_laws.proofs.Zones.{zones_goes, zones_part, zones_step, zones_takings}
 use Rattle.board_laws.specs.Machine.{holds_by_carrier, grant_by, holds_zone}
-use Rattle.board_laws.specs.Zones.{Zones}
 use Rattle.order_clocks.proofs.MemberLaws.{in_append}
 use Rattle.order_clocks.proofs.ReadLaws.{part_acts, part_alarms}
 use Rattle.order_clocks.specs.Chains.{IsIn}
@@ -18,6 +16,7 @@ use Rattle.order_clocks.specs.Happenings.{going_of, happening_of}
 use Rattle.speed_laws.proofs.Hands.{found_once}
 use Rattle.speed_laws.proofs.Histories.{found_in, none_in}
 use Rattle.speed_laws.proofs.PresentSpans.{told_on}
+use Rattle.speed_laws.proofs.RunBoards.{IsRunBoard, run_board_goes, run_board_part, run_board_step, run_board_takings}
 use Rattle.speed_laws.proofs.StepEvents.{as_goings, of_in, once, step_events, taken}
 use Rattle.speed_laws.specs.Doings.{Doings}
 use Rattle.speed_laws.specs.Histories.{Telling, telling_of}
@@ -50,7 +49,7 @@ flag_at flag (suc n) low high = let next : 1 + n ≡ suc n = omega arith in get_
 pub owned_this : (o : Option ℕ) (c : ℕ) → o ≡ Some c → is_this o c ≡ true
 owned_this o c is = rw is (eq-eqb c c refl)
 
-module _ (b : Board) (p : ℕ) (step : Step) (zs : Zones b) (running : is_running (b.state p) ≡ true) (z : ℕ) where
+module _ (b : Board) (p : ℕ) (step : Step) (zs : IsRunBoard b) (running : is_running (b.state p) ≡ true) (z : ℕ) where
   abbrev part : Board
   part = after_own_part b p step
 
@@ -60,11 +59,11 @@ module _ (b : Board) (p : ℕ) (step : Step) (zs : Zones b) (running : is_runnin
   abbrev final : Board
   final = (all_takings before).board
 
-  zones_before : Zones before
-  zones_before = zones_goes part (zones_part b p step zs)
+  zones_before : IsRunBoard before
+  zones_before = run_board_goes part (run_board_part b p step zs)
 
-  zones_final : Zones final
-  zones_final = zones_takings CHANNEL_LIMIT before zones_before
+  zones_final : IsRunBoard final
+  zones_final = run_board_takings CHANNEL_LIMIT before zones_before
 
   -- a taker of an axis of the zone, which is this channel
   record TookIt (c : ℕ) : Type 0 where
@@ -88,13 +87,13 @@ module _ (b : Board) (p : ℕ) (step : Step) (zs : Zones b) (running : is_runnin
 
       by_first : (o : Option ℕ) → first_of (members_of (axes_of_zone before.start z)) ≡ o → (before.holder z ≡ Some c) ⊎ TookIt c
       by_first None is =
-          let bare : final.holder z ≡ first_holder final.start z = zones_final.bare z (ap (λ s. first_of (members_of (axes_of_zone s z))) starts_same ∙ is) in
-          inl (zones_before.bare z is ∙ ap (λ s. first_holder s z) (sym starts_same) ∙ sym bare ∙ held)
+          let bare : final.holder z ≡ first_holder final.start z = zones_final.zones.bare z (ap (λ s. first_of (members_of (axes_of_zone s z))) starts_same ∙ is) in
+          inl (zones_before.zones.bare z is ∙ ap (λ s. first_holder s z) (sym starts_same) ∙ sym bare ∙ held)
       by_first (Some x) is =
           let there : has (axes_of_zone before.start z) x ≡ true = first_has (axes_of_zone before.start z) x is in
-          let last : owner_of (final.axis x) ≡ Some c = zones_final.owner z x (ap (λ s. has (axes_of_zone s z) x) starts_same ∙ there) ∙ held in
+          let last : owner_of (final.axis x) ≡ Some c = zones_final.zones.owner z x (ap (λ s. has (axes_of_zone s z) x) starts_same ∙ there) ∙ held in
           elim ((taken b p step zs running).axis x) [
-            | inl same ↦ inl (sym (zones_before.owner z x there) ∙ ap owner_of (sym same) ∙ last)
+            | inl same ↦ inl (sym (zones_before.zones.owner z x there) ∙ ap owner_of (sym same) ∙ last)
             | inr some ↦
                 let t = (taken b p step zs running).each some.0 some.1.0 in
                 let owned : final.axis x ≡ OwnedBy some.0.channel = t.has x (and_parts _ _ (sym (t.took x) ∙ some.1.1)).0 in
@@ -147,12 +146,12 @@ module _ (b : Board) (p : ℕ) (step : Step) (zs : Zones b) (running : is_runnin
           → holds_by_carrier (first_of (members_of (axes_of_zone before.start z))) (λ x. among (axes_asked (before.state g.channel)) x || owns before g.channel x) (is_this (first_holder before.start z) g.channel) ≡ true
       by_first None is =
           let starts_same : final.start ≡ before.start = (taken b p step zs running).start in
-          let bare : final.holder z ≡ first_holder final.start z = zones_final.bare z (ap (λ s. first_of (members_of (axes_of_zone s z))) starts_same ∙ is) in
+          let bare : final.holder z ≡ first_holder final.start z = zones_final.zones.bare z (ap (λ s. first_of (members_of (axes_of_zone s z))) starts_same ∙ is) in
           rw is (owned_this (first_holder before.start z) g.channel (ap (λ s. first_holder s z) (sym starts_same) ∙ sym bare ∙ held))
       by_first (Some x) is =
           let starts_same : final.start ≡ before.start = (taken b p step zs running).start in
           let there : has (axes_of_zone before.start z) x ≡ true = first_has (axes_of_zone before.start z) x is in
-          let last : owner_of (final.axis x) ≡ Some g.channel = zones_final.owner z x (ap (λ s. has (axes_of_zone s z) x) starts_same ∙ there) ∙ held in
+          let last : owner_of (final.axis x) ≡ Some g.channel = zones_final.zones.owner z x (ap (λ s. has (axes_of_zone s z) x) starts_same ∙ there) ∙ held in
           rw is (elim ((taken b p step zs running).axis x) [
             | inl same ↦ or_there (among (axes_asked (before.state g.channel)) x) (owns before g.channel x) (owned_this (owner_of (before.axis x)) g.channel (ap owner_of (sym same) ∙ last))
             | inr some ↦
@@ -225,7 +224,7 @@ module _ (doings : Doings) (z : ℕ) (low : 1 ≤ z) (high : z ≤ ZONE_LIMIT) w
   on_append on [] us = refl
   on_append on (t ∷ ts) us = on_append (has t.on) ts us
 
-  step_on : (stage : Stage) (p i c : ℕ) (rows : List (List Item)) (zs : Zones stage.board) (running : is_running (stage.board.state p) ≡ true) (on : ℕ → Bool)
+  step_on : (stage : Stage) (p i c : ℕ) (rows : List (List Item)) (zs : IsRunBoard stage.board) (running : is_running (stage.board.state p) ≡ true) (on : ℕ → Bool)
       → (stage.board.holder z ≡ Some c → on z ≡ stage.board.is_on z) → (after_step stage.board p (doings.script p (stage.grants p))).holder z ≡ Some c
       → told_on on (map (telling_of rows) (cond (p == c) (act_of i (doings.script p (stage.grants p)) (happening_of stage.board p (doings.script p (stage.grants p))) ∷ []) []
       ++ map (going_on_of i (goings_in_step stage.board p (doings.script p (stage.grants p)))) (as_goings (going_of (goings_in_step stage.board p (doings.script p (stage.grants p))) c)))) z
@@ -250,7 +249,7 @@ module _ (doings : Doings) (z : ℕ) (low : 1 ≤ z) (high : z ≤ ZONE_LIMIT) w
           rw (e, apart) (was old ∙ sym (on_after_step stage.board p (doings.script p (stage.grants p)) zs running z ∙ rw other refl))
 
   -- after each run, of a zone that it holds a channel's events tell whether it is on
-  pub made_on : (cs : List ℕ) (stage : Stage) (i : ℕ) (rows : List (List Item)) (c : ℕ) (on : ℕ → Bool) → Zones stage.board → IsRun doings.script stage cs → (stage.board.holder z ≡ Some c → on z ≡ stage.board.is_on z)
+  pub made_on : (cs : List ℕ) (stage : Stage) (i : ℕ) (rows : List (List Item)) (c : ℕ) (on : ℕ → Bool) → IsRunBoard stage.board → IsRun doings.script stage cs → (stage.board.holder z ≡ Some c → on z ≡ stage.board.is_on z)
       → (stage_after doings.script stage cs).board.holder z ≡ Some c
       → told_on on (map (telling_of rows) (filter (λ o. o.channel == c) (occurrences_from stage.board i (moves_of doings.script stage cs)))) z ≡ (stage_after doings.script stage cs).board.is_on z
   made_on [] stage i rows c on zs run was held = was held
@@ -265,4 +264,4 @@ module _ (doings : Doings) (z : ℕ) (low : 1 ≤ z) (high : z ≤ ZONE_LIMIT) w
       ap (λ (os : List OccurrenceView). told_on on (map (telling_of rows) os) z) (filter-append (λ o. o.channel == c) (occurrences_in i step (happening_of stage.board p step)) (occurrences_from next.board (suc i) (moves_of doings.script next cs)))
       ∙ ap (λ (ts : List Telling). told_on on ts z) (map-append (telling_of rows) here there)
       ∙ ap (λ (f : ℕ → Bool). f z) (on_append on (map (telling_of rows) here) (map (telling_of rows) there))
-      ∙ made_on cs next (suc i) rows c told (zones_step stage.board p step zs) run.1 now held
+      ∙ made_on cs next (suc i) rows c told (run_board_step stage.board p step zs) run.1 now held

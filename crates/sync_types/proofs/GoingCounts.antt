@@ -52,7 +52,7 @@ runs_not_waits (IsRunning grant) on = refl
 runs_not_waits other on = no_truth false on refl
 
 goes_not_waits : (b : Board) (s : State) → goes_at_once b s ≡ true → waits_for_axes s ≡ false
-goes_not_waits b (IsHolding (AtAxes axes) line) on = no_truth false on refl
+goes_not_waits b (IsHolding (AtAxes from_standing axes) line) on = no_truth false on refl
 goes_not_waits b other on = refl
 
 -- who does not wait for axes does not after the goings either

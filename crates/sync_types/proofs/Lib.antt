@@ -1,6 +1,7 @@
 pub mod Positions
 pub mod BoardTests
 pub mod EntryLaws
+pub mod FreeTakings
 pub mod GoingCounts
 pub mod Links
 pub mod Replays

@@ -3,13 +3,13 @@ use Rattle.std.proofs.Common.{◌-◌}
 use Rattle.axis_sets.specs.declared.limits.TheConstants.{CHANNEL_LIMIT}
 use Rattle.std.proofs.Common.{eq-eqb, eqb-true, arith, inl, inr, ◌≡◌, ℕ, ◌<◌, ◌≤◌, zero, suc, ◌==◌, ◌&&◌, ◌||◌, Bool, true, false, List, [], ◌∷◌, ◌++◌, length, map, Option, Some, None, filter, refl, ap, ap₂, ◌∙◌}
 use Rattle.std.specs.Prelude.{is_some}
-use Rattle.std.proofs.lemmas.Bool.{cases_Bool, and_parts, false_from_ne_true}
+use Rattle.std.proofs.lemmas.Bool.{cases_Bool, and_parts, and_from, or_cases, or_left, or_right, false_from_ne_true}
 use Rattle.std.specs.List.{list_all}
 use Rattle.sync_types.proofs.BoardTests.{no_truth, among_kept, by_test, first_passes}
 use Rattle.sync_types.specs.BoardActions.{after_own_part, after_part, after_alarm, state_after_alarm, channels_started}
 use Rattle.sync_types.specs.BoardAlarms.{alarm_of}
-use Rattle.sync_types.specs.Boards.{AtMarks, AtEnds, AtAxes, State, IsIdle, IsRunning, IsHolding, HasEnded, HasAlarmed, Board, among, channel_numbers, has_ended, is_free, owns}
-use Rattle.sync_types.specs.GoingOn.{Going, goes_at_once, goers_at_once, marks_after_goes, state_after_goes, after_goes, waits_for_axes, axes_asked, can_take, first_of, next_taker, state_after_taking, after_taking, takings, takings_from, goings_on, going_at_once}
+use Rattle.sync_types.specs.Boards.{AtMarks, AtEnds, AtAxes, State, IsIdle, IsRunning, IsHolding, HasEnded, HasAlarmed, Board, among, channel_numbers, has_ended, owner_of, stands}
+use Rattle.sync_types.specs.GoingOn.{Going, goes_at_once, goers_at_once, marks_after_goes, state_after_goes, after_goes, waits_for_axes, axes_asked, takes_from_standing, may_be_taken, can_have, can_take, first_of, next_taker, state_after_taking, after_taking, takings, takings_from, goings_on, going_at_once}
 use Rattle.sync_types.specs.RunLaws.{NobodyCanGo, AlarmLetsNobodyGo}
 use Rattle.sync_types.specs.Turns.{after_step}
 use Rattle.sync_types.specs.declared.Step.{Step}
@@ -28,7 +28,7 @@ still_waits b a (IsHolding (AtMarks m named) line) marks ends off =
     false_from_ne_true _ (λ on. no_truth (goes_at_once b (IsHolding (AtMarks m named) line)) (all_by_weaker (λ d. b.marks d m) (λ d. a.marks d m) named (λ d. marks d m) on) off)
 still_waits b a (IsHolding (AtEnds named) line) marks ends off =
     false_from_ne_true _ (λ on. no_truth (goes_at_once b (IsHolding (AtEnds named) line)) (all_by_weaker (λ d. has_ended (b.state d)) (λ d. has_ended (a.state d)) named ends on) off)
-still_waits b a (IsHolding (AtAxes axes) line) marks ends off = refl
+still_waits b a (IsHolding (AtAxes from_standing axes) line) marks ends off = refl
 still_waits b a IsIdle marks ends off = refl
 still_waits b a (IsRunning grant) marks ends off = refl
 still_waits b a (HasEnded line) marks ends off = refl
@@ -135,7 +135,7 @@ no_taker_among p q (x ∷ xs) few = elim (cases_Bool (p x)) [
 ]
 
 no_taker_left : (n : ℕ) (b : Board) → length (waiters b) ≤ n → next_taker (takings n b).board ≡ None
-no_taker_left zero b few = no_taker_among (λ c. waits_for_axes (b.state c)) (λ c. list_all (λ x. is_free (b.axis x) || owns b c x) (axes_asked (b.state c))) channel_numbers few
+no_taker_left zero b few = no_taker_among (λ c. waits_for_axes (b.state c)) (λ c. list_all (can_have b c) (axes_asked (b.state c))) channel_numbers few
 no_taker_left (suc n) b few = next (no_taker_left n) (next_taker b) refl
   where
     next : ((a : Board) → length (waiters a) ≤ n → next_taker (takings n a).board ≡ None) → (taker : Option ℕ) → next_taker b ≡ taker → next_taker (takings_from (takings n) b taker).board ≡ None
@@ -163,7 +163,18 @@ empty_from (x ∷ xs) none = absurd (some_not_none x none)
 
 -- a channel in a state takes its axes
 abbrev takes_in : Board → ℕ → State → Bool
-takes_in b c s = waits_for_axes s && list_all (λ x. is_free (b.axis x) || owns b c x) (axes_asked s)
+takes_in b c s = waits_for_axes s && list_all (λ x. may_be_taken b c (takes_from_standing s) (owner_of (b.axis x))) (axes_asked s)
+
+-- from fewer that stand fewer axes can be taken
+from_fewer : (b a : Board) (c : ℕ) (from_standing : Bool) (owner : Option ℕ) → ((d : ℕ) → stands (a.state d) ≡ true → stands (b.state d) ≡ true)
+    → may_be_taken a c from_standing owner ≡ true → may_be_taken b c from_standing owner ≡ true
+from_fewer b a c from_standing None stood can = refl
+from_fewer b a c from_standing (Some d) stood can = elim (or_cases (d == c) (from_standing && stands (a.state d)) can) [
+  | inl own ↦ or_left (d == c) (from_standing && stands (b.state d)) own
+  | inr taken ↦
+      let parts = and_parts from_standing (stands (a.state d)) taken in
+      or_right (d == c) (from_standing && stands (b.state d)) (and_from from_standing (stands (b.state d)) parts.0 (stood d parts.1))
+]
 
 waits_of : (b : Board) → NobodyCanGo b → Waits b
 waits_of b rest c in_it = kept_off (λ d. goes_at_once b (b.state d)) channel_numbers c in_it (ap (λ xs. among xs c) rest.no_goer)
@@ -179,11 +190,23 @@ no_goer_after_alarm b c step code rest = none_kept (λ d. goes_at_once (after_al
     (λ e. by_test (λ s. has_ended s ≡ true → has_ended (b.state e) ≡ true) (e == c) _ _ (λ here on. no_truth false on refl) (λ other on. on))
     (waits_of b rest d in_it)))
 
+-- who stands after an alarm stood before it
+stood_before : (b : Board) (c : ℕ) (step : Step) (code d : ℕ) → stands ((after_goes (after_alarm b c step code)).state d) ≡ true → stands (b.state d) ≡ true
+unfolding state_after_alarm state_after_goes
+stood_before b c step code d = by_test (λ s. stands s ≡ true → stands (b.state d) ≡ true) (among (goers_at_once (after_alarm b c step code)) d) _ _
+    (λ goes on. no_truth false on refl)
+    (λ stays. by_test (λ s. stands s ≡ true → stands (b.state d) ≡ true) (d == c) _ _ (λ here on. no_truth false on refl) (λ other on. on))
+
 no_taker_after_alarm : (b : Board) (c : ℕ) (step : Step) (code : ℕ) → NobodyCanGo b → next_taker (after_goes (after_alarm b c step code)) ≡ None
 unfolding state_after_alarm state_after_goes
 no_taker_after_alarm b c step code rest = ap first_of (none_kept (can_take (after_goes (after_alarm b c step code))) channel_numbers (λ d in_it.
-    by_test (λ s. takes_in b d s ≡ false) (among (goers_at_once (after_alarm b c step code)) d) _ _ (λ goes. refl) (λ stays.
-    by_test (λ s. takes_in b d s ≡ false) (d == c) _ _ (λ here. refl) (λ other. takes_none b rest d in_it))))
+    let a : Board = after_goes (after_alarm b c step code) in
+    by_test (λ s. takes_in a d s ≡ false) (among (goers_at_once (after_alarm b c step code)) d) _ _ (λ goes. refl) (λ stays.
+    by_test (λ s. takes_in a d s ≡ false) (d == c) _ _ (λ here. refl) (λ other. false_from_ne_true _ (λ takes.
+    let parts = and_parts (waits_for_axes (b.state d)) _ takes in
+    no_truth (can_take b d) (and_from (waits_for_axes (b.state d)) _ parts.0
+    (all_by_weaker (can_have b d) (λ x. may_be_taken a d (takes_from_standing (b.state d)) (owner_of (b.axis x))) (axes_asked (b.state d))
+    (λ x. from_fewer b a d (takes_from_standing (b.state d)) (owner_of (b.axis x)) (stood_before b c step code)) parts.1)) (takes_none b rest d in_it))))))
 
 alarmed_goings : (b : Board) (c : ℕ) (step : Step) (alarm : Option ℕ) → NobodyCanGo b → is_some alarm ≡ true → goings_on (after_part b c step alarm) (channels_started alarm step.action) ≡ []
 alarmed_goings b c step None rest alarms = no_truth false alarms refl

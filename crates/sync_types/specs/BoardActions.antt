@@ -1,5 +1,5 @@
 -- Meaning. What the action of a step changes on the board, before anybody goes on.
-use Rattle.std.specs.Prelude.{ℕ, ℤ, pos, ◌==◌, ◌&&◌, ◌||◌, not, Bool, true, List, [], filter, Option, Some, None, if◌then◌else◌}
+use Rattle.std.specs.Prelude.{ℕ, ℤ, pos, ◌==◌, ◌&&◌, ◌||◌, not, Bool, true, false, List, [], filter, Option, Some, None, if◌then◌else◌}
 use Rattle.std.specs.List.{list_any}
 use Rattle.axis_sets.specs.Sets.{has, members_of}
 use Rattle.axis_sets.specs.Positions.{position_of}
@@ -19,7 +19,7 @@ others_than c named = filter (λ d. not (d == c)) named
 abbrev pub hold_of : ℕ → Action → Option Hold
 hold_of c (WaitM m named) = Some (AtMarks m (others_than c (members_of named)))
 hold_of c (WaitE named) = Some (AtEnds (members_of named))
-hold_of c (Get axes) = Some (AtAxes (members_of axes))
+hold_of c (Get axes) = Some (AtAxes false (members_of axes))
 hold_of c other = None
 
 -- the channels that START lets run
@@ -57,12 +57,20 @@ carries b axes z = list_any (has (axes_of_zone b.start z)) axes
 unfoldable pub is_on_after : Board → ℕ → Step → ℕ → Bool
 is_on_after b c step z = if is_this (b.holder z) c then has step.on z else b.is_on z
 
--- after an alarm the channel is alarmed; nothing else changes but what the step tells of its zones
+-- a step tells where the axes of its channel stand
+unfoldable pub last_position_after : Board → ℕ → Step → ℕ → ℕ → ℤ
+last_position_after b c step d x = if d == c then position_or_zero (position_of step.at x) else b.last_position d x
+
+-- after an alarm the channel is alarmed; nothing else changes but what the step tells of its zones and positions
 unfoldable pub state_after_alarm : Board → ℕ → Step → ℕ → ℕ → State
 state_after_alarm b c step code d = if d == c then HasAlarmed code step.line else b.state d
 
 abbrev pub after_alarm : Board → ℕ → Step → ℕ → Board
-after_alarm b c step code = record b { state = state_after_alarm b c step code; is_on = is_on_after b c step }
+after_alarm b c step code = record b {
+  state = state_after_alarm b c step code;
+  last_position = last_position_after b c step;
+  is_on = is_on_after b c step;
+}
 
 -- marks, programs and axes after an action that does not alarm; a zone goes with its axes
 unfoldable pub marks_of_all : Board → ℕ → Step → ℕ → ℕ → Bool
@@ -78,6 +86,7 @@ abbrev pub after_effects : Board → ℕ → Step → Board
 after_effects b c step = record b {
   marks = marks_of_all b c step;
   program = λ d. program_after step.action d (b.program d);
+  last_position = last_position_after b c step;
   axis = ownership_after b step;
   holder = holder_after b step;
   is_on = is_on_after b c step;

@@ -6,11 +6,12 @@ use Rattle.sync_types.specs.Starts.{first_program, runs_at_first, first_owner, f
 use Rattle.sync_types.specs.Views.{StartView}
 use Rattle.sync_types.specs.declared.Grant.{Grant}
 
--- for what a channel waits: marks of one number of these channels, ends of these channels, these axes
+-- for what a channel waits: marks of one number of these channels, ends of these channels, these axes; where
+-- from_standing is true it takes them also from channels that stand
 pub data Hold : Type 0 where
   AtMarks : (number : ℕ) → (named : List ℕ) → Hold
   AtEnds : (named : List ℕ) → Hold
-  AtAxes : (axes : List ℕ) → Hold
+  AtAxes : (from_standing : Bool) → (axes : List ℕ) → Hold
 
 -- what a channel does: with what it goes on, or at which line it waits or has stopped
 pub data State : Type 0 where
@@ -25,13 +26,15 @@ pub data Ownership : Type 0 where
   OwnedBy : (channel : ℕ) → Ownership
   FreeAt : (position : ℤ) → Ownership
 
--- where the board started; for each channel its marks by their numbers, what it does and its selected
--- program; for each axis who has it; for each zone its holder and whether it is on
+-- where the board started; for each channel its marks by their numbers, what it does, its selected program, and
+-- by their numbers where its axes stood after its last step or at the start; for each axis who has it; for each
+-- zone its holder and whether it is on
 pub record Board : Type 0 where
   pub start : StartView
   pub marks : ℕ → ℕ → Bool
   pub state : ℕ → State
   pub program : ℕ → Option ℕ
+  pub last_position : ℕ → ℕ → ℤ
   pub axis : ℕ → Ownership
   pub holder : ℕ → Option ℕ
   pub is_on : ℕ → Bool
@@ -56,6 +59,13 @@ is_idle other = false
 abbrev pub is_running : State → Bool
 is_running (IsRunning grant) = true
 is_running other = false
+
+-- a channel stands where it is idle, holding or ended; an alarmed one does not
+abbrev pub stands : State → Bool
+stands IsIdle = true
+stands (IsHolding hold line) = true
+stands (HasEnded line) = true
+stands other = false
 
 abbrev pub has_ended : State → Bool
 has_ended (HasEnded line) = true
@@ -113,6 +123,7 @@ board_at_rest start = record {
   marks = λ c m. false;
   state = λ c. IsIdle;
   program = first_program start;
+  last_position = λ c. first_position start;
   axis = λ x. ownership_of (first_owner start x) (first_position start x);
   holder = first_holder start;
   is_on = is_on_at_first start;

@@ -3,7 +3,7 @@ use Rattle.axis_sets.specs.declared.limits.TheConstants.{CHANNEL_LIMIT}
 use Rattle.std.specs.Prelude.{ℕ, ℤ, pos, zero, suc, ◌==◌, ◌&&◌, ◌||◌, not, Bool, true, false, List, [], ◌∷◌, ◌++◌, map, filter, Option, Some, None, if◌then◌else◌}
 use Rattle.std.specs.List.{list_all}
 use Rattle.sync_types.specs.BoardActions.{carries}
-use Rattle.sync_types.specs.Boards.{AtMarks, AtEnds, AtAxes, State, IsIdle, IsRunning, IsHolding, Ownership, OwnedBy, FreeAt, Board, among, channel_numbers, has_ended, is_free, owns, positions_where, no_positions, grant_with, start_grant}
+use Rattle.sync_types.specs.Boards.{AtMarks, AtEnds, AtAxes, State, IsIdle, IsRunning, IsHolding, Ownership, OwnedBy, FreeAt, Board, among, channel_numbers, has_ended, owner_of, owns, stands, positions_where, no_positions, grant_with, start_grant}
 use Rattle.sync_types.specs.declared.Grant.{Grant}
 use Rattle.sync_types.specs.declared.runs.Go.{Go}
 
@@ -40,17 +40,30 @@ state_after_goes b c = if among (goers_at_once b) c then IsRunning (grant_with b
 abbrev pub after_goes : Board → Board
 after_goes b = record b { marks = marks_after_goes b; state = state_after_goes b }
 
--- rule 3: the lowest channel whose axes are all free or its own takes them
+-- rule 3: the lowest channel takes its axes whose axes are all free or its own, or, where it takes them from standing
+-- channels too, of a channel that stands at that moment
 abbrev pub axes_asked : State → List ℕ
-axes_asked (IsHolding (AtAxes axes) line) = axes
+axes_asked (IsHolding (AtAxes from_standing axes) line) = axes
 axes_asked other = []
 
 abbrev pub waits_for_axes : State → Bool
-waits_for_axes (IsHolding (AtAxes axes) line) = true
+waits_for_axes (IsHolding (AtAxes from_standing axes) line) = true
 waits_for_axes other = false
 
+abbrev pub takes_from_standing : State → Bool
+takes_from_standing (IsHolding (AtAxes from_standing axes) line) = from_standing
+takes_from_standing other = false
+
+-- an axis of this owner, or of none, may be taken
+abbrev pub may_be_taken : Board → ℕ → Bool → Option ℕ → Bool
+may_be_taken b c from_standing None = true
+may_be_taken b c from_standing (Some owner) = (owner == c) || (from_standing && stands (b.state owner))
+
+abbrev pub can_have : Board → ℕ → ℕ → Bool
+can_have b c x = may_be_taken b c (takes_from_standing (b.state c)) (owner_of (b.axis x))
+
 abbrev pub can_take : Board → ℕ → Bool
-can_take b c = waits_for_axes (b.state c) && list_all (λ x. is_free (b.axis x) || owns b c x) (axes_asked (b.state c))
+can_take b c = waits_for_axes (b.state c) && list_all (can_have b c) (axes_asked (b.state c))
 
 abbrev pub first_of : List ℕ → Option ℕ
 first_of [] = None
@@ -59,13 +72,14 @@ first_of (c ∷ cs) = Some c
 abbrev pub next_taker : Board → Option ℕ
 next_taker b = first_of (filter (can_take b) channel_numbers)
 
--- those of the axes that it asks for which are not its own; where it can take them, each of these is free
+-- those of the axes that it asks for which are not its own; where it can take them, each of these is free or of a channel that stands
 abbrev pub axes_to_take : Board → ℕ → List ℕ
 axes_to_take b c = filter (λ x. not (owns b c x)) (axes_asked (b.state c))
 
-abbrev pub free_position : Ownership → ℤ
-free_position (OwnedBy c) = pos 0
-free_position (FreeAt position) = position
+-- where an axis stands whose owner, if it has one, stands: where it was let go, or where its owner left it
+abbrev pub resting_position : Board → ℕ → Ownership → ℤ
+resting_position b x (OwnedBy c) = b.last_position c x
+resting_position b x (FreeAt position) = position
 
 unfoldable pub ownership_after_taking : Board → ℕ → ℕ → Ownership
 ownership_after_taking b c x = if among (axes_to_take b c) x then OwnedBy c else b.axis x
@@ -78,7 +92,7 @@ with_its_axes b c = record b { axis = ownership_after_taking b c; holder = holde
 
 -- it goes on with where the axes stand that it took
 unfoldable pub grant_of_taker : Board → ℕ → Grant
-grant_of_taker b c = grant_with (with_its_axes b c) c (positions_where (among (axes_to_take b c)) (λ x. free_position (b.axis x)))
+grant_of_taker b c = grant_with (with_its_axes b c) c (positions_where (among (axes_to_take b c)) (λ x. resting_position b x (b.axis x)))
 
 unfoldable pub state_after_taking : Board → ℕ → ℕ → State
 state_after_taking b c d = if d == c then IsRunning (grant_of_taker b c) else b.state d

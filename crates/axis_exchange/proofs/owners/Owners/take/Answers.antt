@@ -1,43 +1,26 @@
-use Rattle.std.proofs.Common.{◌≡◌, ℕ, ◌<◌, ◌≤◌, ◌⊎◌, inl, inr, Some, if◌then◌else◌, sym, ap, ◌∙◌, arith, get_or-set_other, length-set, refl}
-use Rattle.axis_sets.proofs.SetLaws.{has-past}
-use Rattle.axis_sets.specs.Sets.{has}
-use Rattle.axis_exchange.proofs.OwnerSteps.{states_taken, named_more, unnamed_more}
-use Rattle.axis_exchange.specs.Owners.{axis_state}
-use Rattle.axis_exchange.specs.declared.AxisState.TheVariants.{Owned}
+use Rattle.std.proofs.Common.{◌≡◌, ℕ, true, None, refl, sym, ap, ◌∙◌, if◌then◌else◌}
+use Rattle.axis_exchange.proofs.OwnerSteps.{known_where_free, taken_from_nobody, states_taken}
 use Rattle.axis_exchange.proofs.owners.Owners.take.Goals as goal
-use Rattle.axis_exchange.proofs.owners.Owners.take.Goals.{then-contains, else-contains}
+use Rattle.axis_exchange.specs.Owners.{axis_state, is_known, may_take, position_when_taken}
+use Rattle.axis_sets.specs.Positions.{position_of}
+use Rattle.axis_sets.specs.Sets.{has}
+use Rattle.set_laws.proofs.MemberLaws.{list_all-at_member}
 
-pub loop-index-preserved : goal.loop-index-preserved
-loop-index-preserved c = elim c.if-contains.branch [
-  | then-contains w ↦ rw w.self-inside-is (
-    length-set c.loop-index.self-inside.states c.loop-index.index (Some (Owned c.args.channel)) ∙ c.loop-index.invariant.0,
-    named_more c.self.inside.states c.loop-index.self-inside.states c.args.axes (Some (Owned c.args.channel)) c.loop-index.index
-        (omega (arith, c.loop-index.invariant.0)) (sym c.contains.ensures.member ∙ w.if-contains.true) c.loop-index.invariant.1,
-    λ x above. get_or-set_other c.loop-index.self-inside.states c.loop-index.index x (Some (Owned c.args.channel)) _ (omega arith) ∙ c.loop-index.invariant.2 x (omega arith),
-    λ _. c.contains.ensures.size,
-  )
-  | else-contains w ↦ rw w.self-inside-is (
-    c.loop-index.invariant.0,
-    unnamed_more c.self.inside.states c.loop-index.self-inside.states c.args.axes (Some (Owned c.args.channel)) c.loop-index.index
-        (sym c.contains.ensures.member ∙ w.if-contains.false) c.loop-index.invariant.1 (c.loop-index.invariant.2 c.loop-index.index (omega arith)),
-    λ x above. c.loop-index.invariant.2 x (omega arith),
-    λ _. c.contains.ensures.size,
-  )
-]
-
-below_or_past : (a b : ℕ) → (a < b) ⊎ (b ≤ a)
-below_or_past a b = grind arith
-
--- each named axis is the channel's, the others are as they were
-all_named : (c : goal.After-loop-index) (x : ℕ) → axis_state c.loop-index.self-inside.states x ≡ (if has c.args.axes x then Some (Owned c.args.channel) else axis_state c.args.self.now x)
-all_named c x = elim (below_or_past x c.loop-index.index) [
-  | inl below ↦ c.loop-index.invariant.1 x below ∙ ap (λ s. if has c.args.axes x then Some (Owned c.args.channel) else axis_state s x) c.self.view_is
-  | inr past ↦ c.loop-index.invariant.2 x past ∙ ap (λ s. axis_state s x) c.self.view_is
-      ∙ sym (rw (has-past c.args.axes x (omega (arith, c.loop-index.invariant.3 (omega arith)))) refl)
-]
+pub take_from-requires : goal.take_from-requires
+take_from-requires c = record {
+  known = λ x member.
+      known_where_free (axis_state c.args.self.now x) c.args.channel (position_of c.empty.result x)
+      (list_all-at_member c.args.axes (λ y. may_take (axis_state c.args.self.now y) c.args.channel) x c.requires member);
+}
 
 pub returns-clause-own : goal.returns-clause-own
-returns-clause-own c = λ x member. all_named c x ∙ rw member refl
+returns-clause-own c = λ x member. c.take_from.ensures.states x ∙ rw member refl
 
 pub returns-clause-states : goal.returns-clause-states
-returns-clause-states c = λ x. all_named c x ∙ states_taken c.args.self.now c.args.channel c.args.axes c.requires x
+returns-clause-states c = λ x. c.take_from.ensures.states x ∙ states_taken c.args.self.now c.args.channel c.args.axes c.requires x
+
+pub returns-clause-positions : goal.returns-clause-positions
+returns-clause-positions c = λ x.
+    c.take_from.ensures.positions x
+    ∙ ap (λ (place : _). if has c.args.axes x then position_when_taken (axis_state c.args.self.now x) c.args.channel place else None) (c.empty.ensures.none x)
+    ∙ ap (λ (place : _). if has c.args.axes x then place else None) (taken_from_nobody (axis_state c.args.self.now x) c.args.channel)

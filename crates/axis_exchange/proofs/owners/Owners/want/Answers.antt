@@ -1,24 +1,12 @@
-use Rattle.std.proofs.Common.{◌≡◌, Bool, true, false, refl, sym, ap, ◌∙◌, arith}
+use Rattle.std.proofs.Common.{◌≡◌, ℕ, sym, ap, ◌∙◌}
+use Rattle.std.proofs.Math.Path.{fun_ext}
+use Rattle.std.specs.List.{list_all}
+use Rattle.axis_exchange.proofs.OwnerSteps.{from_nobody}
 use Rattle.axis_exchange.proofs.owners.Owners.want.Goals as goal
-use Rattle.axis_exchange.specs.Owners.{axis_state, may_take}
-use Rattle.set_laws.proofs.MemberLaws.{has-below, list_all-members_of, list_all-at_member}
+use Rattle.axis_exchange.specs.Owners.{axis_state}
+use Rattle.axis_sets.specs.Sets.{members_of}
 
 pub returns : goal.returns
 returns c =
-    sym (list_all-members_of c.args.axes (λ x. may_take (axis_state c.args.self.now x) c.args.channel)
-    (λ m member. c.loop-index.invariant.0 m (omega (arith, has-below c.args.axes m member, c.loop-index.invariant.1 (omega arith))) member))
-
--- where the channel may take all, it may take this one
-pub returns-then-not-may_take : goal.returns-then-not-may_take
-returns-then-not-may_take c =
-    sym (never_true _ (λ all. apart (may_take (axis_state c.args.self.now c.loop-index.index) c.args.channel)
-    (list_all-at_member c.args.axes (λ x. may_take (axis_state c.args.self.now x) c.args.channel) c.loop-index.index all
-    (sym c.contains.ensures.member ∙ c.if-contains.true))
-    (ap (λ s. may_take s c.args.channel) (sym c.state.ensures.state) ∙ sym c.may_take.ensures ∙ c.if-not-may_take.true)))
-  where
-    never_true : (b : Bool) → (b ≡ true → ⊥) → b ≡ false
-    never_true true h = absurd (h refl)
-    never_true false h = refl
-
-    apart : (b : Bool) → b ≡ true → b ≡ false → ⊥
-    apart b e h = cc
+    c.want_from.ensures
+    ∙ ap (λ (test : ℕ → _). list_all test (members_of c.args.axes)) (fun_ext (λ x. from_nobody (axis_state c.args.self.now x) c.args.channel c.empty.result (c.empty.ensures.members)))

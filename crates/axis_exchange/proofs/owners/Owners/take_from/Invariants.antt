@@ -1,7 +1,7 @@
 use Rattle.std.proofs.Common.{◌≡◌, ℕ, ◌<◌, ◌≤◌, Some, if◌then◌else◌, length}
 use Rattle.axis_exchange.specs.Owners.{axis_state}
 use Rattle.axis_exchange.specs.declared.AxisState.TheVariants.{Owned}
-use Rattle.axis_exchange.proofs.owners.Owners.take.Given as goal
+use Rattle.axis_exchange.proofs.owners.Owners.take_from.Given as goal
 use Rattle.axis_sets.specs.Sets.{has}
 use Rattle.axis_sets.specs.declared.limits.TheConstants.{AXIS_LIMIT}
 
