@@ -5,6 +5,7 @@ use Rattle.std.specs.Ordering.{int_eq}
 use Rattle.std.specs.Int.RustNames.{unsigned_abs}
 use Rattle.axis_sets.specs.declared.limits.TheConstants.{AXIS_LIMIT, CHANNEL_PLACES, MARK_LIMIT, ZONE_PLACES}
 use Rattle.micro_units.specs.Arithmetic.{square_root}
+use Rattle.nc_blocks.specs.AxisNames.{slot_named}
 use Rattle.nc_blocks.specs.Statement.{OperandView, Value, Text, AxisName}
 use Rattle.nc_blocks.specs.declared.blocks.CoordWord.{CoordWord}
 use Rattle.nc_blocks.specs.declared.blocks.CoordWord.TheVariants as word
@@ -16,93 +17,14 @@ use Rattle.nc_expressions.specs.Symbols.{index_of}
 use Rattle.nc_expressions.specs.Tree.{Tree, Number, Parameter, Indexed, Unary, Binary}
 use Rattle.nc_expressions.specs.Value.{◌>>=◌, in_range_or_alarm, quotient_or_alarm, root_or_alarm, unary_value, binary_value, at_index, value_of}
 use Rattle.nc_expressions.specs.Values.{Values}
+use Rattle.nc_expressions.proofs.ListedAlarms.{IsListed, bind_listed, value_listed}
 use Rattle.fault_codes.specs.Codes.{IsAlarmCode, alarm_codes}
 use Rattle.sync_types.specs.declared.Action.TheVariants.{WaitM, SetM, ClearM, Init, Start, WaitE, Release, Get}
-use Rattle.coordination_words.specs.Operands.{or_alarm, operand_value, whole_below, mark_in, channel_in, if_passes, zone_in, state_of, state_in, axis_in, axis_found, slot_named, program_in, set_with, marks_in, channels_in, axes_in, first_in}
+use Rattle.coordination_words.specs.Operands.{or_alarm, operand_value, whole_below, mark_in, channel_in, if_passes, zone_in, state_of, state_in, axis_in, axis_found, program_in, set_with, marks_in, channels_in, axes_in, first_in}
 use Rattle.coordination_words.specs.Programs.{program_named, program_text}
 use Rattle.coordination_words.specs.Requests.{without_itself, meeting, selection, switching, owns_all, leaves_zones_whole, letting_go, taking, request_of}
 use Rattle.coordination_words.specs.Settings.{SettingView}
 use Rattle.coordination_words.specs.declared.asked.Request.TheVariants.{Act, Switch}
-
--- an alarm, where one comes, is in the table
-abbrev pub IsListed : {A : Type 0} → Result A ℕ → Type 0
-IsListed (Ok x) = ⊤
-IsListed (Err code) = IsAlarmCode code
-
-bind_listed : {A B : Type 0} (r : Result A ℕ) (f : A → Result B ℕ) → IsListed r → ((x : A) → IsListed (f x)) → IsListed (r >>= f)
-bind_listed (Ok x) f first rest = rest x
-bind_listed (Err code) f first rest = first
-
--- ---- values
-
-checked_listed : (z : ℤ) → IsListed (in_range_or_alarm z)
-unfolding in_range_or_alarm IsAlarmCode alarm_codes
-checked_listed z = by_size (nat_lt (unsigned_abs z) (10 ^ 14))
-  where
-    by_size : (b : Bool) → IsListed (cond b (Ok z) (Err 1))
-    by_size true = tt
-    by_size false = refl
-
-divided_listed : (divisor : ℤ) (value : Result ℤ ℕ) → IsListed value → IsListed (quotient_or_alarm divisor value)
-unfolding quotient_or_alarm IsAlarmCode alarm_codes
-divided_listed divisor value listed = by_zero (int_eq divisor (pos 0))
-  where
-    by_zero : (b : Bool) → IsListed (cond b (Err 2) value)
-    by_zero true = refl
-    by_zero false = listed
-
-rooted_listed : (z : ℤ) → IsListed (root_or_alarm z)
-unfolding root_or_alarm IsAlarmCode alarm_codes
-rooted_listed z = by_sign (int_lt z (pos 0))
-  where
-    by_sign : (b : Bool) → IsListed (cond b (Err 3) (Ok (square_root z)))
-    by_sign true = refl
-    by_sign false = tt
-
-unary_listed : (op : UnaryOp) (z : ℤ) → IsListed (unary_value op z)
-unfolding unary_value
-unary_listed Minus z = tt
-unary_listed Not z = tt
-unary_listed Abs z = tt
-unary_listed Sqrt z = rooted_listed z
-unary_listed Pot z = checked_listed _
-unary_listed Trunc z = tt
-unary_listed Round z = checked_listed _
-
-binary_listed : (op : BinaryOp) (x y : ℤ) → IsListed (binary_value op x y)
-unfolding binary_value
-binary_listed Add x y = checked_listed _
-binary_listed Sub x y = checked_listed _
-binary_listed Mul x y = checked_listed _
-binary_listed Div x y = divided_listed y _ (checked_listed _)
-binary_listed WholeDiv x y = divided_listed y _ (checked_listed _)
-binary_listed Modulo x y = divided_listed y _ tt
-binary_listed And x y = tt
-binary_listed Or x y = tt
-binary_listed Xor x y = tt
-binary_listed Equal x y = tt
-binary_listed NotEqual x y = tt
-binary_listed Greater x y = tt
-binary_listed Less x y = tt
-binary_listed GreaterEqual x y = tt
-binary_listed LessEqual x y = tt
-
-at_index_listed : (values : Values) (o : Option ℕ) → IsListed (at_index values o)
-unfolding IsAlarmCode alarm_codes
-at_index_listed values None = refl
-at_index_listed values (Some i) = tt
-
-value_listed : (values : Values) (tree : Tree) → IsListed (value_of values tree)
-value_listed values (Number n) = tt
-value_listed values (Parameter i) = tt
-value_listed values (Indexed t) =
-    bind_listed (value_of values t) (λ z. at_index values (index_of z)) (value_listed values t) (λ z. at_index_listed values (index_of z))
-value_listed values (Unary op t) = bind_listed (value_of values t) (λ z. unary_value op z) (value_listed values t) (λ z. unary_listed op z)
-value_listed values (Binary op a b) =
-    bind_listed (value_of values a) (λ x. value_of values b >>= λ y. binary_value op x y) (value_listed values a)
-    (λ x. bind_listed (value_of values b) (λ y. binary_value op x y) (value_listed values b) (λ y. binary_listed op x y))
-
--- ---- arguments
 
 or_listed : (code : ℕ) → IsAlarmCode code → (o : Option ℕ) → IsListed (or_alarm code o)
 or_listed code is None = is

@@ -8,6 +8,7 @@ use Rattle.set_laws.proofs.MemberLaws.{list_all-members_of}
 use Rattle.axis_sets.specs.Sets.{has, members_of, IsEmpty}
 use Rattle.axis_sets.specs.declared.limits.TheConstants.{AXIS_LIMIT, CHANNEL_PLACES, MARK_LIMIT, ZONE_PLACES}
 use Rattle.nc_expressions.specs.NameTexts.{name_of}
+use Rattle.nc_blocks.specs.AxisNames.{slot_named}
 use Rattle.nc_blocks.specs.Statement.{OperandView, Value, Text, AxisName}
 use Rattle.nc_blocks.specs.declared.blocks.CoordWord.{CoordWord}
 use Rattle.nc_blocks.specs.declared.blocks.CoordWord.TheVariants as word
@@ -18,7 +19,7 @@ use Rattle.sync_types.specs.declared.Action.{Action}
 use Rattle.sync_types.specs.declared.Action.TheVariants.{WaitM, SetM, ClearM, Init, Start, WaitE, Release, Get}
 use Rattle.coordination_words.proofs.SetLaws.{from_bind, less_has, less_itself, all_kept, all_found_pass}
 use Rattle.coordination_words.specs.Laws.{AllAxesPass, IsOfTheJob}
-use Rattle.coordination_words.specs.Operands.{or_alarm, operand_value, whole_below, mark_in, channel_in, if_passes, zone_in, state_in, axis_in, axis_found, slot_named, program_in, set_with, marks_in, channels_in, axes_in, first_in}
+use Rattle.coordination_words.specs.Operands.{or_alarm, operand_value, whole_below, mark_in, channel_in, if_passes, zone_in, state_in, axis_in, axis_found, program_in, set_with, marks_in, channels_in, axes_in, first_in}
 use Rattle.coordination_words.specs.Programs.{number_of, program_named, program_text}
 use Rattle.coordination_words.specs.Requests.{without_itself, meeting, selection, switching, owns_all, leaves_zones_whole, letting_go, taking, request_of}
 use Rattle.coordination_words.specs.Settings.{SettingView}

@@ -1,7 +1,7 @@
 -- Meaning. What the arguments of coordination words stand for, each by itself and all of a list.
-use Rattle.std.specs.Prelude.{ℕ, ◌*◌, ◌%◌, ◌/◌, ◌==◌, ◌&&◌, nat_lt, nat_le, ℤ, pos, negsuc, Bool, true, false, if◌then◌else◌, List, [], ◌∷◌, codes, replicate, slice_index_or, slice_set, Option, None, Some, Result, Ok, Err}
+use Rattle.std.specs.Prelude.{ℕ, ◌*◌, ◌%◌, ◌/◌, ◌==◌, ◌&&◌, nat_lt, nat_le, ℤ, pos, negsuc, Bool, true, false, if◌then◌else◌, List, [], ◌∷◌, replicate, slice_index_or, slice_set, Option, None, Some, Result, Ok, Err}
 use Rattle.std.specs.Ordering.{int_eq}
-use Rattle.std.specs.Str.{bytes_eq}
+use Rattle.nc_blocks.specs.AxisNames.{slot_named}
 use Rattle.nc_blocks.specs.Statement.{OperandView, Value, Text, AxisName}
 use Rattle.nc_expressions.specs.Value.{◌>>=◌, value_of}
 use Rattle.nc_expressions.specs.Values.{Values}
@@ -56,14 +56,6 @@ abbrev pub state_in : Values → OperandView → Result Bool ℕ
 state_in values operand = operand_value values ZONE_STATE operand >>= state_of
 
 -- ---- axes and programs
-
--- the slot with this letter
-abbrev pub slot_named : List ℕ → Option ℕ
-slot_named name =
-    if bytes_eq name (codes "X") then Some 0
-    else if bytes_eq name (codes "Y") then Some 1
-    else if bytes_eq name (codes "Z") then Some 2
-    else None
 
 -- the axis in a slot of the channel, whoever owns it, or else the axis with the name
 abbrev pub axis_found : SettingView → List ℕ → Option ℕ → Option ℕ

@@ -1,6 +1,7 @@
 //! What the arguments of coordination words stand for.
 
 ghost use Rattle.std.specs.Prelude.{◌≡◌, ◌≤◌, ◌<◌, All, IfOk, IfSome, length, map, slice_set, true};
+ghost use Rattle.nc_blocks.specs.AxisNames.{slot_named};
 ghost use Rattle.nc_blocks.specs.Indices.{OperandFits};
 ghost use Rattle.nc_blocks.specs.Statement.{operand_view};
 ghost use Rattle.axis_sets.specs.declared.limits.TheConstants.{MARK_LIMIT};
@@ -16,7 +17,7 @@ use fault_codes::alarms::{
     NO_SUCH_AXIS, NO_SUCH_CHANNEL, NO_SUCH_MARK, NO_SUCH_PROGRAM, ZONE_NOT_HELD, ZONE_STATE,
 };
 use micro_units::Num;
-use nc_blocks::Operand;
+use nc_blocks::{Operand, slot_named};
 use nc_expressions::{Names, eval};
 
 // ---- values
@@ -163,25 +164,9 @@ pub(crate) fn state_in<N: Names>(operand: &Operand, parameters: &N) -> Result<bo
 
 // ---- axes and programs
 
-/// The slot with this letter, 0, 1 and 2 for X, Y and Z.
-fn slot_named(name: &[u8]) -> Option<u8>
-    ensures slot { result ≡ model.slot_named name.now }
-    ensures below { IfSome result (λ slot. slot < 3) }
-{
-    if name == b"X".as_slice() {
-        Some(0)
-    } else if name == b"Y".as_slice() {
-        Some(1)
-    } else if name == b"Z".as_slice() {
-        Some(2)
-    } else {
-        None
-    }
-}
-
 /// The axis in a slot of the channel, or else the axis with the name.
 fn axis_found<S: Setting>(setting: &S, name: &[u8]) -> Option<AxisId>
-    ensures { result ≡ model.axis_found (S.setting setting.now) name.now (model.slot_named name.now) }
+    ensures { result ≡ model.axis_found (S.setting setting.now) name.now (slot_named name.now) }
 {
     match slot_named(name) {
         Some(slot) => setting.slot_axis(slot),

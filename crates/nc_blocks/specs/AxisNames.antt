@@ -1,5 +1,6 @@
--- Meaning. Axis names: the letter of an axis, and digits.
-use Rattle.std.specs.Prelude.{ℕ, ◌+◌, ◌==◌, ◌&&◌, ◌||◌, Bool, false, List}
+-- Meaning. Axis names: the letter of an axis, and digits; and the letters of slots.
+use Rattle.std.specs.Prelude.{ℕ, ◌+◌, ◌==◌, ◌&&◌, ◌||◌, Bool, false, if◌then◌else◌, List, codes, Option, Some, None}
+use Rattle.std.specs.Str.{bytes_eq}
 use Rattle.block_scanner.specs.WordsView.{WordsView}
 use Rattle.nc_expressions.specs.Symbols.{is_digits}
 use Rattle.nc_blocks.specs.declared.pieces.Piece.{Piece}
@@ -30,3 +31,11 @@ has_axis_name words at = is_axis_start (piece_at words at) && has_digits words (
 -- an axis name and =
 unfoldable pub has_axis_word : WordsView → ℕ → Bool
 has_axis_word words at = has_axis_name words at && is_assign (piece_at words (at + 2))
+
+-- the slot of a geometry axis with this letter
+abbrev pub slot_named : List ℕ → Option ℕ
+slot_named name =
+    if bytes_eq name (codes "X") then Some 0
+    else if bytes_eq name (codes "Y") then Some 1
+    else if bytes_eq name (codes "Z") then Some 2
+    else None

@@ -1,9 +1,9 @@
 //! Axis names.
 
-ghost use Rattle.std.specs.Prelude.{◌≡◌, ◌<◌, ◌+◌, length};
+ghost use Rattle.std.specs.Prelude.{◌≡◌, ◌<◌, ◌+◌, IfSome, length};
 ghost use Rattle.std.specs.Bool.{OnTrue};
 ghost use Rattle.block_scanner.specs.Scanned.{IsScanned};
-ghost use Rattle.nc_blocks.specs.AxisNames.{is_axis_letter, is_axis_start, has_digits, has_axis_name, has_axis_word};
+ghost use Rattle.nc_blocks.specs.AxisNames.{is_axis_letter, is_axis_start, has_digits, has_axis_name, has_axis_word, slot_named};
 ghost use Rattle.nc_blocks.specs.Pieces.{piece_at};
 
 use crate::pieces::{Piece, piece_at, text_at};
@@ -69,5 +69,21 @@ pub fn has_axis_word(words: &Words<'_>, at: usize) -> bool
         }
     } else {
         false
+    }
+}
+
+/// The slot of a geometry axis with the letter `name`: 0, 1 and 2 for X, Y and Z.
+pub fn slot_named(name: &[u8]) -> Option<u8>
+    ensures slot { result ≡ slot_named name.now }
+    ensures below { IfSome result (λ slot. slot < 3) }
+{
+    if name == b"X".as_slice() {
+        Some(0)
+    } else if name == b"Y".as_slice() {
+        Some(1)
+    } else if name == b"Z".as_slice() {
+        Some(2)
+    } else {
+        None
     }
 }

@@ -12,7 +12,7 @@ mod texts;
 mod threads;
 mod wording;
 
-pub use axis_names::{has_axis_name, has_axis_word};
+pub use axis_names::{has_axis_name, has_axis_word, slot_named};
 pub use blocks::{
     Block, CoordWord, FrameWord, JumpTo, Measure, Operand, Stmt, Target, VarKind, Way, Word,
 };

@@ -3,6 +3,7 @@ pub mod Beginnings
 pub mod Complete
 pub mod Leftmost
 pub mod LevelLaws
+pub mod ListedAlarms
 pub mod Parsed
 pub mod Stopped
 pub mod Runs
