@@ -1,26 +1,19 @@
 -- The count of compared boxes, part by part, is the number of the compared pairs.
-use Rattle.std.proofs.Common.{◌≡◌, ◌∙◌, ℕ, ◌+◌, ◌-◌, ◌*◌, ◌^◌, ◌<◌, ◌≤◌, ◌||◌, not, Bool, true, false, cond, List, [], ◌∷◌, take, map, filter, length, get_or, min, refl, sym, ap, arith}
-use Rattle.std.specs.List.{count_by, flat_map, sum_by}
+use Rattle.std.proofs.Common.{◌≡◌, ◌∙◌, ℕ, ◌+◌, ◌-◌, ◌*◌, ◌^◌, ◌<◌, ◌≤◌, ◌||◌, not, Bool, true, false, cond, List, [], ◌∷◌, ◌++◌, take, map, filter, length, length-append, get_or, min, refl, sym, ap, arith}
+use Rattle.std.specs.List.{count_by, sum_by}
 use Rattle.std.proofs.lemmas.List.{length-map, take_all}
 use Rattle.std.proofs.lemmas.List.Concat.{length-flat_map}
 use Rattle.std.proofs.lemmas.List.Sums.{length-filter, sum_by-cons, sum_by_more}
 use Rattle.job_types.specs.declared.job.ZoneLine.{ZoneLine}
 use Rattle.explain_meetings.specs.CountSteps.{count_in_boxes, count_sharing}
 use Rattle.explain_meetings.specs.Groups.{capped}
-use Rattle.zone_stretches.specs.Overlaps.{Order, Pair, are_compared, box_pairs, may_overlap, share_channel, share_place, stretch_pairs}
+use Rattle.zone_stretches.specs.Overlaps.{Pair, are_compared, box_pairs, share_channel, share_place}
 use Rattle.zone_stretches.specs.Stretches.{StretchView}
 use Rattle.zone_stretches.specs.declared.stretches.ZoneBox.{ZoneBox}
 
 -- ---- what is counted of the first elements of a list
 
 module _ {X : Type 0} (f : X → ℕ) where
-  -- one element more
-  pub counted_more : (xs : List X) (i : ℕ) (x : X) (count one next : ℕ) → i < length xs → x ≡ get_or xs i x → one ≡ capped (f x) → next ≡ min (count + one) (2 ^ 64 - 1)
-      → count ≡ capped (sum_by f (take i xs)) → next ≡ capped (sum_by f (take (i + 1) xs))
-  counted_more xs i x count one next within is one_is next_is so_far =
-      let more : sum_by f (take (i + 1) xs) ≡ sum_by f (take i xs) + f x = sum_by_more f xs i x within ∙ ap (λ (y : X). sum_by f (take i xs) + f y) (sym is) in
-      omega (arith, more, one_is, next_is, so_far)
-
   -- the element of a place
   pub counted_at : (xs : List X) (i : ℕ) (d : X) (count one next : ℕ) → i < length xs → one ≡ capped (f (get_or xs i d)) → next ≡ min (count + one) (2 ^ 64 - 1)
       → count ≡ capped (sum_by f (take i xs)) → next ≡ capped (sum_by f (take (i + 1) xs))
@@ -29,10 +22,6 @@ module _ {X : Type 0} (f : X → ℕ) where
   -- all of them
   pub counted_all : (xs : List X) (i count : ℕ) → length xs ≤ i → count ≡ capped (sum_by f (take i xs)) → count ≡ capped (sum_by f xs)
   counted_all xs i count past so_far = so_far ∙ ap (λ (ys : List X). capped (sum_by f ys)) (take_all i xs past)
-
--- the sum of lengths is the length of all
-pub sum_is : {X A : Type 0} (f : X → List A) (xs : List X) → capped (sum_by (λ x. length (f x)) xs) ≡ capped (length (flat_map f xs))
-sum_is f xs = ap capped (sym (length-flat_map f xs))
 
 -- ---- two stretches
 
@@ -49,7 +38,7 @@ kept_all : {X : Type 0} (xs : List X) → length (filter (λ x. true) xs) ≡ le
 kept_all [] = refl
 kept_all (x ∷ xs) = let rest = kept_all xs in omega arith
 
-count_boxes : (zone : ZoneLine) (left : StretchView) (other : ZoneLine) (right : StretchView) → length (box_pairs zone left other right) ≡ count_in_boxes left right
+pub count_boxes : (zone : ZoneLine) (left : StretchView) (other : ZoneLine) (right : StretchView) → length (box_pairs zone left other right) ≡ count_in_boxes left right
 unfolding count_in_boxes count_sharing
 count_boxes zone left other right =
     length-flat_map (λ (own : ZoneBox). map (pair own) (filter (are_compared left right own) right.boxes)) left.boxes
@@ -68,12 +57,6 @@ count_boxes zone left other right =
         sum_by-same (λ (own : ZoneBox). length (filter (λ (later : ZoneBox). true) right.boxes)) (λ own. length right.boxes) (λ own. kept_all right.boxes) left.boxes
         ∙ sum_by-constant (length right.boxes) left.boxes
 
--- of two that may overlap, and of two that do not
-pub count_on : (before : Order) (zone : ZoneLine) (left : StretchView) (other : ZoneLine) (right : StretchView) (count : ℕ) → may_overlap before left right ≡ true
-    → count ≡ capped (count_in_boxes left right) → count ≡ capped (length (stretch_pairs before zone left other right))
-count_on before zone left other right count on is =
-    is ∙ ap capped (sym (count_boxes zone left other right)) ∙ ap (λ (b : Bool). capped (length (cond b (box_pairs zone left other right) []))) (sym on)
-
-pub count_off : (before : Order) (zone : ZoneLine) (left : StretchView) (other : ZoneLine) (right : StretchView) → may_overlap before left right ≡ false
-    → 0 ≡ capped (length (stretch_pairs before zone left other right))
-count_off before zone left other right off = ap (λ (b : Bool). capped (length (cond b (box_pairs zone left other right) []))) (sym off)
+-- with so many more
+pub count_more : (pairs more : List Pair) (count one next : ℕ) → one ≡ capped (length more) → next ≡ min (count + one) (2 ^ 64 - 1) → count ≡ capped (length pairs) → next ≡ capped (length (pairs ++ more))
+count_more pairs more count one next one_is next_is so_far = let both = length-append pairs more in omega (arith, both, one_is, next_is, so_far)

@@ -6,16 +6,17 @@ use Rattle.std.specs.List.{flat_map, list_any}
 use Rattle.explain_reach.specs.Lots.{lots_meet}
 use Rattle.job_types.specs.declared.job.ZoneLine.{ZoneLine}
 use Rattle.zone_stretches.specs.InCovers.{IsInCover, ArePairsInCover}
-use Rattle.zone_stretches.specs.Overlaps.{BoxPlace, Pair, are_compared, may_overlap, box_pairs, stretch_pairs}
+use Rattle.zone_stretches.specs.Overlaps.{BoxPlace, Pair, are_compared, box_pairs}
 use Rattle.zone_stretches.specs.Pieces.{pair_meets, piece_boxes}
+use Rattle.zone_stretches.specs.StretchPairs.{StretchPairView, boxes_of_pair, boxes_with, pairs_with}
 use Rattle.zone_stretches.specs.Stretches.{StretchView}
+use Rattle.zone_stretches.specs.TimedZones.{TimedZoneView}
 use Rattle.zone_stretches.specs.declared.stretches.ZoneBox.{ZoneBox}
 use Rattle.explain_meetings.proofs.AddLaws.{flat_map_same}
 use Rattle.explain_meetings.proofs.CoverLaws.{covers_meet}
 use Rattle.explain_meetings.specs.Meetings.{told_pair}
-use Rattle.explain_meetings.specs.MeetingSteps.{may_meet, met_one, met_by, met_in_boxes, met_in_stretches, met_in_row}
+use Rattle.explain_meetings.specs.MeetingSteps.{may_meet, met_one, met_by, met_in_boxes, met_of_pair, met_with}
 use Rattle.zone_stretches.specs.Cases.{Case, place_of}
-use Rattle.explain_meetings.specs.Rows.{RowView, pairs_in, row_pairs}
 use Rattle.swept_boxes.specs.Boxes.{boxes_meet}
 use Rattle.swept_boxes.specs.declared.Box3.{Box3}
 use Rattle.explain_places.specs.declared.place.Meeting.{Meeting}
@@ -71,31 +72,14 @@ module _ (case : Case) where
       ∙ flat_map_same (λ (own : ZoneBox). kept (map (λ later. (place_of zone left own, place_of other right later)) (filter (are_compared left right own) right.boxes)))
       (λ (own : ZoneBox). met_by case other right (place_of zone left own)) (λ own. kept_made (place_of zone left own) other right right.boxes) left.boxes
 
-  stretches_are : (zone : ZoneLine) (left : StretchView) (other : ZoneLine) (right : StretchView) → kept (stretch_pairs case.before zone left other right) ≡ met_in_stretches case zone left other right
-  unfolding met_in_stretches
-  stretches_are zone left other right = by_overlap (may_overlap case.before left right)
-    where
-      by_overlap : (b : Bool) → kept (cond b (box_pairs zone left other right) []) ≡ cond b (met_in_boxes case zone left other right) []
-      by_overlap true = boxes_are zone left other right
-      by_overlap false = refl
+  pair_is : (pair : StretchPairView) → kept (boxes_of_pair pair) ≡ met_of_pair case pair
+  pair_is pair = boxes_are pair.left.zone pair.left.stretch pair.right.zone pair.right.stretch
 
-  -- a stretch with those of another zone
-  stretch_is : (row : RowView) (left : StretchView)
-      → kept (flat_map (stretch_pairs case.before row.zone left row.other) row.others) ≡ flat_map (met_in_stretches case row.zone left row.other) row.others
-  stretch_is row left =
-      kept_flat (stretch_pairs case.before row.zone left row.other) row.others
-      ∙ flat_map_same (λ (right : StretchView). kept (stretch_pairs case.before row.zone left row.other right)) (met_in_stretches case row.zone left row.other)
-      (λ right. stretches_are row.zone left row.other right) row.others
-
-  -- the stretches of two zones
-  row_is : (row : RowView) → kept (row_pairs case.before row) ≡ met_in_row case row
-  row_is row =
-      kept_flat (λ (left : StretchView). flat_map (stretch_pairs case.before row.zone left row.other) row.others) row.owns
-      ∙ flat_map_same (λ (left : StretchView). kept (flat_map (stretch_pairs case.before row.zone left row.other) row.others))
-      (λ (left : StretchView). flat_map (met_in_stretches case row.zone left row.other) row.others) (stretch_is row) row.owns
-
-  rows_kept : (rows : List RowView) → kept (pairs_in case.before rows) ≡ flat_map (met_in_row case) rows
-  rows_kept rows = kept_flat (row_pairs case.before) rows ∙ flat_map_same (λ (row : RowView). kept (row_pairs case.before row)) (met_in_row case) row_is rows
+  -- two zones
+  zones_are : (zones : TimedZoneView × TimedZoneView) → kept (boxes_with case.before zones) ≡ met_with case zones
+  zones_are zones =
+      kept_flat boxes_of_pair (pairs_with case.before zones)
+      ∙ flat_map_same (λ (pair : StretchPairView). kept (boxes_of_pair pair)) (met_of_pair case) pair_is (pairs_with case.before zones)
 
   -- where the boxes by which they are compared lie in their covers, the test of these leaves out none that meets
   covers_first : (pair : Pair) → IsInCover case.job case.run pair.0 → IsInCover case.job case.run pair.1 → meets pair ≡ pair_meets case.job case.run pair
@@ -110,9 +94,11 @@ module _ (case : Case) where
       ∙ ap (λ (kept_rest : List Pair). cond (pair_meets case.job case.run pair) (pair ∷ kept_rest) kept_rest) (all_kept pairs rest)
 
   -- all that meet, as they are found
-  pub rows_are : (rows : List RowView) → ArePairsInCover case.job case.run (pairs_in case.before rows)
-      → map told_pair (filter (pair_meets case.job case.run) (pairs_in case.before rows)) ≡ flat_map (met_in_row case) rows
-  rows_are rows all = ap (map told_pair) (sym (all_kept (pairs_in case.before rows) all)) ∙ rows_kept rows
+  pub all_met : (zones : List (TimedZoneView × TimedZoneView)) → ArePairsInCover case.job case.run (flat_map (boxes_with case.before) zones)
+      → map told_pair (filter (pair_meets case.job case.run) (flat_map (boxes_with case.before) zones)) ≡ flat_map (met_with case) zones
+  all_met zones all =
+      ap (map told_pair) (sym (all_kept (flat_map (boxes_with case.before) zones) all)) ∙ kept_flat (boxes_with case.before) zones
+      ∙ flat_map_same (λ (two : TimedZoneView × TimedZoneView). kept (boxes_with case.before two)) (met_with case) zones_are zones
 
 -- where none may meet, none is told
 pub none_met : (case : Case) (left : BoxPlace) (other : ZoneLine) (right : StretchView) (boxes : List ZoneBox)

@@ -1,7 +1,4 @@
 pub mod AddLaws
-pub mod NearLaws
-pub mod TimeLaws
-pub mod RowLaws
 pub mod CoverLaws
 pub mod KeptLaws
 pub mod SeenLaws

@@ -1,28 +1,30 @@
 -- What is found of the boxes of two zones: the compared pairs of one row, and the nearest of these.
-use Rattle.std.proofs.Common.{◌≡◌, ◌∙◌, ◌⊎◌, inl, inr, ℕ, ℤ, zero, suc, ◌+◌, ◌<◌, ◌≤◌, ◌==◌, Bool, true, false, cond, List, [], ◌∷◌, ◌++◌, drop, filter, length, get_or, map, min, max, All, Contains, Option, None, Some, refl, sym, ap, subst, append_assoc, arith}
+use Rattle.std.proofs.Common.{◌≡◌, ◌∙◌, ◌⊎◌, inl, inr, ℕ, ℤ, zero, suc, ◌<◌, ◌==◌, Bool, true, false, cond, List, [], ◌∷◌, ◌++◌, filter, length, get_or, map, min, max, All, Contains, Option, None, Some, refl, sym, ap, subst, arith}
 use Rattle.std.specs.Prelude.{◌≤ℤ◌, pos, unwrap_or}
 use Rattle.std.specs.Int.{int_max}
 use Rattle.std.specs.List.{Any, flat_map}
 use Rattle.std.proofs.lemmas.Int.{ints, clamps}
-use Rattle.std.proofs.lemmas.List.{append-nil, drop_all, drop_more}
+use Rattle.std.proofs.lemmas.List.{map-append}
 use Rattle.std.proofs.lemmas.List.Elements.{All-nil, All-cons, All-head, All-tail, All-append, All-contains, All-get_or, All-weaker, Contains-append_left, Contains-append_right}
 use Rattle.explain_reach.proofs.LotLaws.{in_front, le_itself, le_trans}
 use Rattle.explain_reach.specs.Lots.{IsGreatest, greater}
 use Rattle.job_types.specs.Job.{JobView}
-use Rattle.explain_meetings.proofs.AddLaws.{flat_map_append}
+use Rattle.explain_meetings.proofs.AddLaws.{added_part}
 use Rattle.explain_meetings.proofs.CoverLaws.{part_left, part_right}
 use Rattle.explain_meetings.specs.Groups.{capped}
 use Rattle.explain_meetings.specs.Nearest.{AreNearest, IsNearest, groups_of, pair_reaches}
-use Rattle.explain_meetings.specs.PairSteps.{AreReady}
-use Rattle.explain_meetings.specs.Rows.{RowView, IsRowTimed, pairs_in, row_pairs, rows_by_group, rows_for}
-use Rattle.explain_meetings.specs.ZonePairs.{comparison_of, each_two_of, greatest_of, pairs_of_two, two_of}
+use Rattle.explain_meetings.specs.PairSteps.{AreReady, two_with}
+use Rattle.explain_meetings.specs.ZonePairs.{comparison_of, greatest_of, pairs_of_two, two_of}
 use Rattle.explain_meetings.specs.declared.nearest.Near.{Near}
 use Rattle.sync_types.specs.Views.{RunView}
 use Rattle.explain_pairs.specs.declared.pairs.Comparison.{Comparison}
 use Rattle.explain_pairs.specs.declared.pairs.ZonePair.{ZonePair}
-use Rattle.zone_stretches.specs.InCovers.{IsInCover}
+use Rattle.zone_stretches.proofs.StretchPairLaws.{boxes_are}
+use Rattle.zone_stretches.specs.InCovers.{ArePairsInCover, IsInCover}
 use Rattle.zone_stretches.specs.Overlaps.{Order, Pair, ZoneTime, are_compared, box_pairs, may_overlap, pairs_of_zones, stretch_pairs}
+use Rattle.zone_stretches.specs.StretchPairs.{boxes_with}
 use Rattle.zone_stretches.specs.Stretches.{StretchView}
+use Rattle.zone_stretches.specs.TimedZones.{TimedZoneView, AreTimed, each_two}
 use Rattle.zone_stretches.specs.declared.stretches.ZoneBox.{ZoneBox}
 
 -- ---- the greatest of some numbers
@@ -131,26 +133,16 @@ one_found job run (pair ∷ pairs) rows groups d count reach same are some is co
 
 -- ---- the pairs of two zones
 
-pub two_are : (before : Order) (one two : ZoneTime) → pairs_in before (rows_for one two) ≡ pairs_of_two before one two
-unfolding rows_for pairs_of_two pairs_of_zones
-two_are before one two = by_group (one.zone.group == two.zone.group)
-  where
-    row : RowView
-    row = record { zone = one.zone; owns = one.stretches; other = two.zone; others = two.stretches }
+pub two_are : (before : Order) (zones : TimedZoneView × TimedZoneView) → boxes_with before zones ≡ pairs_of_two before zones.0.time zones.1.time
+unfolding pairs_of_two
+two_are before zones = boxes_are before zones.0.time zones.1.time
 
-    by_group : (b : Bool) → pairs_in before (cond b [] (row ∷ [])) ≡ cond b [] (row_pairs before row)
-    by_group true = refl
-    by_group false = append-nil (row_pairs before row)
-
-pub two_groups : (before : Order) (one two : ZoneTime) → All (λ p. groups_of p ≡ (min one.zone.group two.zone.group, max one.zone.group two.zone.group)) (pairs_in before (rows_for one two))
-unfolding rows_for
+pub two_groups : (before : Order) (one two : ZoneTime) → All (λ p. groups_of p ≡ (min one.zone.group two.zone.group, max one.zone.group two.zone.group)) (pairs_of_two before one two)
+unfolding pairs_of_two pairs_of_zones
 two_groups before one two = by_group (one.zone.group == two.zone.group)
   where
     Same : Pair → Type 0
     Same p = groups_of p ≡ (min one.zone.group two.zone.group, max one.zone.group two.zone.group)
-
-    row : RowView
-    row = record { zone = one.zone; owns = one.stretches; other = two.zone; others = two.stretches }
 
     mk : StretchView → StretchView → ZoneBox → ZoneBox → Pair
     mk left right own later = (record { zone = one.zone; stretch = left; box = own }, record { zone = two.zone; stretch = right; box = later })
@@ -167,83 +159,43 @@ two_groups before one two = by_group (one.zone.group == two.zone.group)
     stretches : (left right : StretchView) → All Same (stretch_pairs before one.zone left two.zone right)
     stretches left right = by_overlap left right (may_overlap before left right)
 
-    of_row : All Same (row_pairs before row)
-    of_row = each_flat Same (λ left. flat_map (stretch_pairs before one.zone left two.zone) two.stretches) (λ left. each_flat Same (stretch_pairs before one.zone left two.zone) (stretches left) two.stretches) one.stretches
-
-    by_group : (b : Bool) → All Same (pairs_in before (cond b [] (row ∷ [])))
+    by_group : (b : Bool) → All Same (cond b [] (flat_map (λ left. flat_map (λ right. stretch_pairs before one.zone left two.zone right) two.stretches) one.stretches))
     by_group true = All-nil Same
-    by_group false = All-append Same (row_pairs before row) [] of_row (All-nil Same)
-
--- ---- rows in two parts
-
-pub ready_left : (before : Order) (job : JobView) (run : RunView) (xs ys : List RowView) → AreReady before job run (xs ++ ys) → AreReady before job run xs
-ready_left before job run xs ys ready = record {
-  timed = part_left (IsRowTimed before) xs ys ready.timed;
-  covers = part_left (λ (pair : Pair). IsInCover job run pair.0 × IsInCover job run pair.1) (pairs_in before xs) (pairs_in before ys)
-      (subst (λ (ps : List Pair). All (λ (pair : Pair). IsInCover job run pair.0 × IsInCover job run pair.1) ps) (flat_map_append (row_pairs before) xs ys) ready.covers);
-}
-
-pub ready_right : (before : Order) (job : JobView) (run : RunView) (xs ys : List RowView) → AreReady before job run (xs ++ ys) → AreReady before job run ys
-ready_right before job run xs ys ready = record {
-  timed = part_right (IsRowTimed before) xs ys ready.timed;
-  covers = part_right (λ (pair : Pair). IsInCover job run pair.0 × IsInCover job run pair.1) (pairs_in before xs) (pairs_in before ys)
-      (subst (λ (ps : List Pair). All (λ (pair : Pair). IsInCover job run pair.0 × IsInCover job run pair.1) ps) (flat_map_append (row_pairs before) xs ys) ready.covers);
-}
+    by_group false = each_flat Same (λ left. flat_map (λ right. stretch_pairs before one.zone left two.zone right) two.stretches)
+        (λ left. each_flat Same (λ right. stretch_pairs before one.zone left two.zone right) (stretches left) two.stretches) one.stretches
 
 -- ---- each two zones, one after another
 
 module _ (before : Order) (job : JobView) (run : RunView) where
-  -- the others from a place on: that of the place, and the rest
-  others_split : (others : List ZoneTime) (i : ℕ) (two : ZoneTime) → i < length others → two ≡ get_or others i two → drop i others ≡ two ∷ drop (i + 1) others
-  others_split others i two within is = drop_more others i two within ∙ ap (λ (t : ZoneTime). t ∷ drop (i + 1) others) (sym is)
-
-  pub ready_here : (one : ZoneTime) (others : List ZoneTime) (i : ℕ) (two : ZoneTime) → i < length others → two ≡ get_or others i two
-      → AreReady before job run (flat_map (rows_for one) (drop i others)) → AreReady before job run (rows_for one two)
-  ready_here one others i two within is ready =
-      ready_left before job run (rows_for one two) (flat_map (rows_for one) (drop (i + 1) others))
-      (subst (λ (ts : List ZoneTime). AreReady before job run (flat_map (rows_for one) ts)) (others_split others i two within is) ready)
-
-  pub ready_later : (one : ZoneTime) (others : List ZoneTime) (i : ℕ) (two : ZoneTime) → i < length others → two ≡ get_or others i two
-      → AreReady before job run (flat_map (rows_for one) (drop i others)) → AreReady before job run (flat_map (rows_for one) (drop (i + 1) others))
-  ready_later one others i two within is ready =
-      ready_right before job run (rows_for one two) (flat_map (rows_for one) (drop (i + 1) others))
-      (subst (λ (ts : List ZoneTime). AreReady before job run (flat_map (rows_for one) ts)) (others_split others i two within is) ready)
-
-  pub zone_ready : (times : List ZoneTime) (place : ℕ) (one : ZoneTime) → place < length times → one ≡ get_or times place one
-      → AreReady before job run (rows_by_group (drop place times)) → AreReady before job run (flat_map (rows_for one) (drop (place + 1) times))
-  zone_ready times place one within is ready =
-      ready_left before job run (flat_map (rows_for one) (drop (place + 1) times)) (rows_by_group (drop (place + 1) times))
-      (subst (λ (ts : List ZoneTime). AreReady before job run (rows_by_group ts)) (others_split times place one within is) ready)
-
-  pub zones_ready : (times : List ZoneTime) (place : ℕ) (one : ZoneTime) → place < length times → one ≡ get_or times place one
-      → AreReady before job run (rows_by_group (drop place times)) → AreReady before job run (rows_by_group (drop (place + 1) times))
-  zones_ready times place one within is ready =
-      ready_right before job run (flat_map (rows_for one) (drop (place + 1) times)) (rows_by_group (drop (place + 1) times))
-      (subst (λ (ts : List ZoneTime). AreReady before job run (rows_by_group ts)) (others_split times place one within is) ready)
+  -- they may be looked at, where all compared boxes may
+  pub all_ready : (zones : List (TimedZoneView × TimedZoneView)) → All (AreTimed before) zones → ArePairsInCover job run (flat_map (boxes_with before) zones) → All (AreReady before job run) zones
+  all_ready [] timed covers = All-nil (AreReady before job run)
+  all_ready (two ∷ zones) timed covers =
+      All-cons (AreReady before job run) two zones
+      (record {
+        timed = All-head (AreTimed before) two zones timed;
+        covers = part_left (λ (pair : Pair). IsInCover job run pair.0 × IsInCover job run pair.1) (boxes_with before two) (flat_map (boxes_with before) zones) covers;
+      })
+      (all_ready zones (All-tail (AreTimed before) two zones timed)
+      (part_right (λ (pair : Pair). IsInCover job run pair.0 × IsInCover job run pair.1) (boxes_with before two) (flat_map (boxes_with before) zones) covers))
 
   -- one pair more
-  pub pair_more : (one : ZoneTime) (others : List ZoneTime) (i : ℕ) (two : ZoneTime) (pairs more all : List ZonePair) (pair : ZonePair) → i < length others → two ≡ get_or others i two
-      → pair ≡ two_of before job run one two → more ≡ pairs ++ pair ∷ []
-      → pairs ++ map (two_of before job run one) (drop i others) ≡ all → more ++ map (two_of before job run one) (drop (i + 1) others) ≡ all
-  pair_more one others i two pairs more all pair within is pair_is added so_far =
-      ap (λ (ps : List ZonePair). ps ++ map (two_of before job run one) (drop (i + 1) others)) added
-      ∙ append_assoc pairs (pair ∷ []) (map (two_of before job run one) (drop (i + 1) others))
-      ∙ ap (λ (p : ZonePair). pairs ++ p ∷ map (two_of before job run one) (drop (i + 1) others)) pair_is
-      ∙ ap (λ (ts : List ZoneTime). pairs ++ map (two_of before job run one) ts) (sym (others_split others i two within is)) ∙ so_far
+  pub pair_more : (left later : List (TimedZoneView × TimedZoneView)) (two : TimedZoneView × TimedZoneView) (pairs more all : List ZonePair) (pair : ZonePair) → left ≡ two ∷ later
+      → pair ≡ two_with before job run two → more ≡ pairs ++ pair ∷ [] → pairs ++ map (two_with before job run) left ≡ all → more ++ map (two_with before job run) later ≡ all
+  pair_more left later two pairs more all pair is pair_is added so_far =
+      added_part pairs more (two_with before job run two ∷ []) (map (two_with before job run) left) (map (two_with before job run) later) all
+      (added ∙ ap (λ (p : ZonePair). pairs ++ p ∷ []) pair_is) (ap (map (two_with before job run)) is) so_far
 
-  pub pairs_done : (one : ZoneTime) (others : List ZoneTime) (i : ℕ) (pairs all : List ZonePair) → length others ≤ i → pairs ++ map (two_of before job run one) (drop i others) ≡ all → pairs ≡ all
-  pairs_done one others i pairs all past so_far =
-      sym (append-nil pairs) ∙ ap (λ (ts : List ZoneTime). pairs ++ map (two_of before job run one) ts) (sym (drop_all i others past)) ∙ so_far
+  with_times : (one : TimedZoneView) (others : List TimedZoneView)
+      → map (two_with before job run) (map (λ two. (one, two)) others) ≡ map (two_of before job run) (map (λ two. (one.time, two)) (map (λ zone. zone.time) others))
+  with_times one [] = refl
+  with_times one (two ∷ others) = ap (λ (pairs : List ZonePair). two_of before job run (one.time, two.time) ∷ pairs) (with_times one others)
 
-  -- one zone more
-  pub zone_told : (times : List ZoneTime) (place : ℕ) (one : ZoneTime) (pairs more all : List ZonePair) → place < length times → one ≡ get_or times place one
-      → more ≡ pairs ++ map (two_of before job run one) (drop (place + 1) times)
-      → pairs ++ each_two_of before job run (drop place times) ≡ all → more ++ each_two_of before job run (drop (place + 1) times) ≡ all
-  zone_told times place one pairs more all within is added so_far =
-      ap (λ (ps : List ZonePair). ps ++ each_two_of before job run (drop (place + 1) times)) added
-      ∙ append_assoc pairs (map (two_of before job run one) (drop (place + 1) times)) (each_two_of before job run (drop (place + 1) times))
-      ∙ ap (λ (ts : List ZoneTime). pairs ++ each_two_of before job run ts) (sym (others_split times place one within is)) ∙ so_far
-
-  pub zones_told : (times : List ZoneTime) (place : ℕ) (pairs all : List ZonePair) → length times ≤ place → pairs ++ each_two_of before job run (drop place times) ≡ all → pairs ≡ all
-  zones_told times place pairs all past so_far =
-      sym (append-nil pairs) ∙ ap (λ (ts : List ZoneTime). pairs ++ each_two_of before job run ts) (sym (drop_all place times past)) ∙ so_far
+  -- what is told of the zones with their stretches
+  pub told_by_times : (zones : List TimedZoneView) → map (two_with before job run) (each_two zones) ≡ map (two_of before job run) (each_two (map (λ (zone : TimedZoneView). zone.time) zones))
+  told_by_times [] = refl
+  told_by_times (one ∷ others) =
+      map-append (two_with before job run) (map (λ two. (one, two)) others) (each_two others)
+      ∙ ap (λ (pairs : List ZonePair). pairs ++ map (two_with before job run) (each_two others)) (with_times one others)
+      ∙ ap (λ (pairs : List ZonePair). map (two_of before job run) (map (λ two. (one.time, two)) (map (λ (zone : TimedZoneView). zone.time) others)) ++ pairs) (told_by_times others)
+      ∙ sym (map-append (two_of before job run) (map (λ two. (one.time, two)) (map (λ (zone : TimedZoneView). zone.time) others)) (each_two (map (λ (zone : TimedZoneView). zone.time) others)))

@@ -2,28 +2,44 @@
 use Rattle.std.proofs.Common.{◌≡◌, ◌∙◌, ℕ, ◌+◌, ◌<◌, ◌≤◌, Bool, true, false, cond, List, [], ◌∷◌, ◌++◌, take, filter, length, get_or, map, refl, sym, ap, subst, append_assoc}
 use Rattle.std.specs.List.{flat_map}
 use Rattle.std.proofs.lemmas.List.{append-nil, take_all, take_more}
+use Rattle.std.proofs.lemmas.List.Concat.{flat_map-append}
 use Rattle.job_types.specs.declared.job.ZoneLine.{ZoneLine}
-use Rattle.explain_meetings.proofs.AddLaws.{flat_map_append, flat_map_same}
+use Rattle.explain_meetings.proofs.AddLaws.{flat_map_same}
 use Rattle.explain_meetings.specs.NearSteps.{pair_where, pairs_by, pairs_in_boxes}
 use Rattle.zone_stretches.specs.Cases.{place_of}
 use Rattle.zone_stretches.specs.Overlaps.{BoxPlace, Pair, are_compared, box_pairs}
 use Rattle.zone_stretches.specs.Stretches.{StretchView}
 use Rattle.zone_stretches.specs.declared.stretches.ZoneBox.{ZoneBox}
 
-module _ {X : Type 0} (f : X → List Pair) (P : List Pair → Type 0) where
-  -- one element more
-  pub seen_more : (xs : List X) (i : ℕ) (x : X) (seen : List Pair) → i < length xs → x ≡ get_or xs i x → P ((seen ++ flat_map f (take i xs)) ++ f x) → P (seen ++ flat_map f (take (i + 1) xs))
-  seen_more xs i x seen within is so_far =
-      let step : flat_map f (take (i + 1) xs) ≡ flat_map f (take i xs) ++ f x =
-      ap (flat_map f) (take_more xs i x within) ∙ flat_map_append f (take i xs) (get_or xs i x ∷ [])
-      ∙ ap (λ (ps : List Pair). flat_map f (take i xs) ++ ps) (append-nil (f (get_or xs i x))) ∙ ap (λ (y : X). flat_map f (take i xs) ++ f y) (sym is) in
-      subst P (append_assoc seen (flat_map f (take i xs)) (f x) ∙ ap (λ (ps : List Pair). seen ++ ps) (sym step)) so_far
+-- of a list whose elements give pairs something is so of the pairs of the first elements; these are left
+pub record IsSeen {X : Type 0} (f : X → List Pair) (P : List Pair → Type 0) (left all : List X) : Type 0 where
+  pub first : List X
+  pub are : first ++ left ≡ all
+  pub so_far : P (flat_map f first)
 
+module _ {X : Type 0} (f : X → List Pair) where
+  -- of none
+  pub seen_start : (P : List Pair → Type 0) (left all : List X) → left ≡ all → P [] → IsSeen f P left all
+  seen_start P left all is so_far = record { first = []; are = is; so_far = so_far }
+
+  -- of one element more
+  pub seen_next : (P Q : List Pair → Type 0) (left later all : List X) (x : X) → left ≡ x ∷ later → ((pairs : List Pair) → P pairs → Q (pairs ++ f x)) → IsSeen f P left all → IsSeen f Q later all
+  seen_next P Q left later all x is step seen = record {
+    first = seen.first ++ x ∷ [];
+    are = append_assoc seen.first (x ∷ []) later ∙ ap (λ (xs : List X). seen.first ++ xs) (sym is) ∙ seen.are;
+    so_far = subst Q (sym (flat_map-append f seen.first (x ∷ []) ∙ ap (λ (ps : List Pair). flat_map f seen.first ++ ps) (append-nil (f x)))) (step (flat_map f seen.first) seen.so_far);
+  }
+
+  -- of all
+  pub seen_end : (P : List Pair → Type 0) (left all : List X) → left ≡ [] → IsSeen f P left all → P (flat_map f all)
+  seen_end P left all none seen = subst (λ (xs : List X). P (flat_map f xs)) (sym (append-nil seen.first) ∙ ap (λ (xs : List X). seen.first ++ xs) (sym none) ∙ seen.are) seen.so_far
+
+module _ {X : Type 0} (f : X → List Pair) (P : List Pair → Type 0) where
   -- the element of a place
   pub seen_at : (xs : List X) (i : ℕ) (d : X) (seen : List Pair) → i < length xs → P ((seen ++ flat_map f (take i xs)) ++ f (get_or xs i d)) → P (seen ++ flat_map f (take (i + 1) xs))
   seen_at xs i d seen within so_far =
       let step : flat_map f (take (i + 1) xs) ≡ flat_map f (take i xs) ++ f (get_or xs i d) =
-      ap (flat_map f) (take_more xs i d within) ∙ flat_map_append f (take i xs) (get_or xs i d ∷ [])
+      ap (flat_map f) (take_more xs i d within) ∙ flat_map-append f (take i xs) (get_or xs i d ∷ [])
       ∙ ap (λ (ps : List Pair). flat_map f (take i xs) ++ ps) (append-nil (f (get_or xs i d))) in
       subst P (append_assoc seen (flat_map f (take i xs)) (f (get_or xs i d)) ∙ ap (λ (ps : List Pair). seen ++ ps) (sym step)) so_far
 

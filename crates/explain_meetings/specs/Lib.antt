@@ -1,4 +1,3 @@
-pub mod Rows
 pub mod Meetings
 pub mod MeetingSteps
 pub mod KeptBoxes

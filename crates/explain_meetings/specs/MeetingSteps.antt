@@ -3,13 +3,14 @@ use Rattle.std.specs.Prelude.{◌&&◌, Bool, if◌then◌else◌, List, [], ◌
 use Rattle.std.specs.List.{flat_map}
 use Rattle.job_types.specs.declared.job.ZoneLine.{ZoneLine}
 use Rattle.explain_meetings.specs.Meetings.{told_pair}
-use Rattle.explain_meetings.specs.Rows.{RowView}
 use Rattle.swept_boxes.specs.Boxes.{boxes_meet}
 use Rattle.explain_places.specs.declared.place.Meeting.{Meeting}
 use Rattle.zone_stretches.specs.Cases.{Case, place_of}
-use Rattle.zone_stretches.specs.Overlaps.{BoxPlace, are_compared, may_overlap}
+use Rattle.zone_stretches.specs.Overlaps.{BoxPlace, are_compared}
 use Rattle.zone_stretches.specs.Pieces.{pair_meets}
+use Rattle.zone_stretches.specs.StretchPairs.{StretchPairView, pairs_with}
 use Rattle.zone_stretches.specs.Stretches.{StretchView}
+use Rattle.zone_stretches.specs.TimedZones.{TimedZoneView}
 use Rattle.zone_stretches.specs.declared.stretches.ZoneBox.{ZoneBox}
 
 -- two boxes are compared, and their covers meet
@@ -30,9 +31,10 @@ met_by case other right left = flat_map (met_one case left other right) right.bo
 abbrev pub met_in_boxes : Case → ZoneLine → StretchView → ZoneLine → StretchView → List Meeting
 met_in_boxes case zone left other right = flat_map (λ own. met_by case other right (place_of zone left own)) left.boxes
 
-unfoldable pub met_in_stretches : Case → ZoneLine → StretchView → ZoneLine → StretchView → List Meeting
-met_in_stretches case zone left other right = if may_overlap case.before left right then met_in_boxes case zone left other right else []
+-- those of a pair of stretches
+abbrev pub met_of_pair : Case → StretchPairView → List Meeting
+met_of_pair case pair = met_in_boxes case pair.left.zone pair.left.stretch pair.right.zone pair.right.stretch
 
--- the stretches of two zones
-abbrev pub met_in_row : Case → RowView → List Meeting
-met_in_row case row = flat_map (λ left. flat_map (met_in_stretches case row.zone left row.other) row.others) row.owns
+-- the boxes of two zones
+abbrev pub met_with : Case → TimedZoneView × TimedZoneView → List Meeting
+met_with case zones = flat_map (met_of_pair case) (pairs_with case.before zones)

@@ -1,5 +1,5 @@
 -- Meaning. What is told of each two zones of a job: how many of their boxes are compared in a run and how near these come, or why none are.
-use Rattle.std.specs.Prelude.{ℕ, ℤ, pos, ◌==◌, ◌||◌, not, Bool, if◌then◌else◌, List, [], ◌∷◌, ◌++◌, find, length, map, Option, None, Some, unwrap_or}
+use Rattle.std.specs.Prelude.{ℕ, ℤ, pos, ◌==◌, ◌||◌, not, Bool, if◌then◌else◌, List, [], ◌∷◌, find, length, map, Option, None, Some, unwrap_or}
 use Rattle.std.specs.List.{flat_map, list_all}
 use Rattle.std.specs.Option.{option_map}
 use Rattle.explain_reach.specs.Lots.{greater}
@@ -16,6 +16,7 @@ use Rattle.explain_pairs.specs.declared.pairs.ZoneFacts.{ZoneFacts}
 use Rattle.explain_pairs.specs.declared.pairs.ZonePair.{ZonePair}
 use Rattle.zone_stretches.specs.Overlaps.{Order, Pair, ZoneTime, pairs_of_zones, zone_times}
 use Rattle.zone_stretches.specs.Stretches.{StretchView, StretchesView}
+use Rattle.zone_stretches.specs.TimedZones.{each_two}
 
 -- ---- when a zone is on
 
@@ -64,14 +65,9 @@ comparison_of job run (pair ∷ pairs) =
 -- ---- each two zones
 
 -- two zones
-unfoldable pub two_of : Order → JobView → RunView → ZoneTime → ZoneTime → ZonePair
-two_of before job run one two = pair_of (facts_of one) (facts_of two) (comparison_of job run (pairs_of_two before one two))
-
--- each zone with each later one
-abbrev pub each_two_of : Order → JobView → RunView → List ZoneTime → List ZonePair
-each_two_of before job run [] = []
-each_two_of before job run (one ∷ others) = map (two_of before job run one) others ++ each_two_of before job run others
+unfoldable pub two_of : Order → JobView → RunView → ZoneTime × ZoneTime → ZonePair
+two_of before job run zones = pair_of (facts_of zones.0) (facts_of zones.1) (comparison_of job run (pairs_of_two before zones.0 zones.1))
 
 -- each two zones of a job, in the order of their numbers
 unfoldable pub zone_pairs_of : Order → JobView → RunView → StretchesView → List ZonePair
-zone_pairs_of before job run stretches = each_two_of before job run (zone_times job stretches)
+zone_pairs_of before job run stretches = map (two_of before job run) (each_two (zone_times job stretches))

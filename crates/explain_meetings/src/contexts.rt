@@ -1,11 +1,11 @@
 //! What is looked at together while boxes of two zones are compared.
 
 use explain_reach::PartedBoxes;
-use job_types::{Job, ZoneLine};
+use job_types::Job;
 use order_clocks::Clocks;
 use std::alloc::Global;
 use sync_types::Run;
-use zone_stretches::{Stretch, ZoneBox, ZoneStretch};
+use zone_stretches::{ZoneBox, ZoneStretch};
 
 /// A job with a run of it and the order of its events.
 #[derive(Clone, Copy)]
@@ -18,17 +18,6 @@ pub(crate) struct Scene<'a> {
     pub(crate) run: &'a Run,
     /// The order of its events.
     pub(crate) clocks: &'a Clocks,
-}
-
-/// A zone with its stretches.
-#[derive(Clone, Copy)]
-pub(crate) struct ListedZone<'a> {
-    /// The zone.
-    pub(crate) zone: &'a ZoneLine,
-    /// Its stretches.
-    pub(crate) stretches: &'a [Stretch],
-    /// Whether each of them is known to be over as the next begins.
-    pub(crate) ascends: bool,
 }
 
 /// Two stretches of two zones, whose boxes are compared.

@@ -1,22 +1,15 @@
 //! How many boxes of two zones are compared.
-ghost use Rattle.std.specs.Prelude.{◌≡◌, ◌∷◌, [], Bool, true, All, length};
-ghost use Rattle.std.specs.List.{count_by, flat_map};
+ghost use Rattle.std.specs.Prelude.{◌≡◌, length};
+ghost use Rattle.std.specs.List.{count_by};
 ghost use Rattle.explain_meetings.specs.CountSteps as steps;
 ghost use Rattle.explain_meetings.specs.Groups.{capped};
-ghost use Rattle.explain_meetings.specs.Rows.{IsRowTimed, pairs_in, row_pairs};
 ghost use Rattle.order_clocks.specs.Tells.{is_before_in};
-ghost use Rattle.zone_stretches.specs.Ascents as ascents;
-ghost use Rattle.zone_stretches.specs.Ascents.{IsTimed, PassFirst, passes};
-ghost use Rattle.zone_stretches.specs.Overlaps.{share_place, stretch_pairs};
+ghost use Rattle.zone_stretches.specs.Overlaps.{share_place};
+ghost use Rattle.zone_stretches.specs.StretchPairs.{boxes_with};
+ghost use Rattle.zone_stretches.specs.TimedZones.{AreTimed};
 
-use crate::contexts::ListedZone;
-use crate::rows::Row;
-use job_types::ZoneLine;
 use order_clocks::Clocks;
-use zone_stretches::{
-    IndexRange, Stretch, ZoneBox, ZoneStretch, is_chain, may_overlap, near_part, share_channel,
-    share_place,
-};
+use zone_stretches::{Stretch, StretchPairs, TimedZone, ZoneBox, share_channel, share_place};
 
 /// With how many of these a box holds a place in common.
 fn count_near(own: &ZoneBox, laters: &[ZoneBox]) -> u64
@@ -55,92 +48,16 @@ fn count_in_boxes(left: &Stretch, right: &Stretch) -> u64
     }
 }
 
-/// How many boxes of two stretches are compared.
-fn count_in_stretches(clocks: &Clocks, left: &ZoneStretch, right: &ZoneStretch) -> u64
-    ensures { result ≡ capped (length (stretch_pairs (is_before_in clocks.now.rows) left.now.zone.now
-        left.now.stretch.now right.now.zone.now right.now.stretch.now)) }
-{
-    if may_overlap(clocks, left.stretch, right.stretch) {
-        count_in_boxes(left.stretch, right.stretch)
-    } else {
-        0
-    }
-}
-
-/// How many boxes of a stretch and of some stretches of another zone are compared.
-fn count_against(clocks: &Clocks, left: &ZoneStretch, other: &ZoneLine, others: &[Stretch]) -> u64
-    ensures { result ≡ capped (length (flat_map
-        (stretch_pairs (is_before_in clocks.now.rows) left.now.zone.now left.now.stretch.now other.now) others.now)) }
+/// How many boxes of two zones are compared, or the greatest number of 64 bits where there are more.
+pub(crate) fn count_of_zones(clocks: &Clocks, left: &TimedZone, right: &TimedZone) -> u64
+    requires { AreTimed (is_before_in clocks.now.rows) (left.now, right.now) }
+    ensures { result ≡ capped (length (boxes_with (is_before_in clocks.now.rows) (left.now, right.now))) }
 {
     let mut count: u64 = 0;
-    for stretch in others {
-        let right = ZoneStretch {
-            zone: other,
-            stretch,
-        };
-        count = count.saturating_add(count_in_stretches(clocks, left, &right));
-    }
-    count
-}
-
-/// The same of all stretches of another zone. Where these ascend, those alone are looked at that may overlap the stretch.
-fn count_beside(
-    clocks: &Clocks,
-    left: &ZoneStretch,
-    other: &ListedZone,
-    range: &mut IndexRange,
-) -> u64
-    requires { other.now.ascends ≡ true → (ended : Bool)
-        → PassFirst (passes (is_before_in clocks.now.rows) ended left.now.stretch.now) other.now.stretches.now }
-    ensures { result ≡ capped (length (flat_map
-        (stretch_pairs (is_before_in clocks.now.rows) left.now.zone.now left.now.stretch.now other.now.zone.now)
-        other.now.stretches.now)) }
-{
-    let others = other.stretches;
-    let near = near_part(clocks, left.stretch, others, other.ascends, range);
-    count_against(clocks, left, other.zone, near)
-}
-
-/// How many boxes of the stretches of two zones are compared.
-fn count_in_zones(clocks: &Clocks, zone: &ZoneLine, owns: &[Stretch], other: &ListedZone) -> u64
-    requires timed { IsTimed (is_before_in clocks.now.rows) (owns.now ∷ (other.now.stretches.now ∷ [])) }
-    requires ascend { other.now.ascends ≡ true
-        → ascents.is_chain (is_before_in clocks.now.rows) other.now.stretches.now ≡ true }
-    ensures { result ≡ capped (length (flat_map
-        (λ left. flat_map (stretch_pairs (is_before_in clocks.now.rows) zone.now left other.now.zone.now)
-        other.now.stretches.now)
-        owns.now)) }
-{
-    let mut range = IndexRange { from: 0, upto: 0 };
-    let mut count: u64 = 0;
-    for stretch in owns {
-        let left = ZoneStretch { zone, stretch };
-        count = count.saturating_add(count_beside(clocks, &left, other, &mut range));
-    }
-    count
-}
-
-/// The same of a row.
-fn count_in_row(clocks: &Clocks, row: &Row) -> u64
-    requires { IsRowTimed (is_before_in clocks.now.rows) row.now }
-    ensures { result ≡ capped (length (row_pairs (is_before_in clocks.now.rows) row.now)) }
-{
-    let other = ListedZone {
-        zone: row.other,
-        stretches: row.others,
-        ascends: is_chain(clocks, row.others),
-    };
-    count_in_zones(clocks, row.zone, row.owns, &other)
-}
-
-/// How many boxes of the zones of some rows are compared, or the greatest number of 64 bits where there are more.
-pub(crate) fn count_in(clocks: &Clocks, rows: &[Row]) -> u64
-    requires { All (IsRowTimed (is_before_in clocks.now.rows)) rows.now }
-    ensures { result ≡ capped (length (pairs_in (is_before_in clocks.now.rows) rows.now)) }
-{
-    let mut count: u64 = 0;
-    for row in rows {
-        count = count.saturating_add(count_in_row(clocks, row));
+    for pair in StretchPairs::of(clocks, left, right) {
+        let left = pair.left;
+        let right = pair.right;
+        count = count.saturating_add(count_in_boxes(left.stretch, right.stretch));
     }
     count
 }

@@ -9,7 +9,6 @@ mod kept;
 mod meetings;
 mod nearest;
 mod pairs;
-mod rows;
 
 pub use groups::{Group, groups_of};
 pub use meetings::{meetings_of, told_box};

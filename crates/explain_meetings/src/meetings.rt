@@ -1,38 +1,35 @@
 //! All boxes that meet, of zones that may not.
-ghost use Rattle.std.specs.Prelude.{◌≡◌, ◌≤◌, ◌++◌, ◌∷◌, [], if◌then◌else◌, Bool, true, All, OnOk, IfOk};
+ghost use Rattle.std.specs.Prelude.{◌≡◌, ◌≤◌, ◌++◌, ◌∷◌, [], if◌then◌else◌, All, OnOk, IfOk};
 ghost use Rattle.std.specs.List.{flat_map, list_any};
 ghost use Rattle.explain_reach.specs.Lots.{lots_meet};
 ghost use Rattle.job_lines.specs.declared.limits.TheConstants.{DEPTH_LIMIT};
 ghost use Rattle.job_types.specs.SoundJob.{IsSoundJob};
-ghost use Rattle.zone_stretches.specs.Ascents as ascents;
-ghost use Rattle.zone_stretches.specs.Ascents.{IsTimed, PassFirst, passes};
 ghost use Rattle.explain_meetings.specs.Contexts.{case_of};
 ghost use Rattle.explain_meetings.specs.KeptBoxes.{AreKept, IsAt};
 ghost use Rattle.explain_meetings.specs.Meetings.{meetings_of, told_box, told_pair};
 ghost use Rattle.explain_meetings.specs.MeetingSteps as model;
-ghost use Rattle.explain_meetings.specs.Rows.{IsRowTimed};
 ghost use Rattle.order_clocks.specs.Tells.{is_before_in};
 ghost use Rattle.zone_stretches.specs.Cases.{box_of};
 ghost use Rattle.zone_stretches.specs.Pieces.{piece_boxes};
+ghost use Rattle.zone_stretches.specs.TimedZones.{AreTimed, each_two};
 ghost use Rattle.zone_stretches.specs.Told.{IsTold};
 ghost use Rattle.zone_stretches.specs.ZoneBoxes.{IsFit};
 ghost use Rattle.swept_boxes.specs.Boxes.{boxes_meet};
 
-use crate::contexts::{ListedZone, PartedBox, PlacedBox, Scene, TwoStretches};
+use crate::contexts::{PartedBox, PlacedBox, Scene, TwoStretches};
 use crate::kept::{are_kept, keep_at, kept_at, lot_of};
-use crate::rows::{Row, rows_of, times_of};
 use axis_sets::{ChannelId, ZoneId};
 use explain_places::{Meeting, Place};
 use explain_reach::PartedBoxes;
-use job_types::{Job, ZoneLine};
+use job_types::Job;
 use order_clocks::Clocks;
 use out_of_memory::NoMemory;
 use std::alloc::{AllocError, Global};
 use swept_boxes::Box3;
 use sync_types::{EventId, PlaceName, Run, StretchKind};
 use zone_stretches::{
-    IndexRange, Stretch, Stretches, ZoneBox, ZoneStretch, are_compared, is_chain, may_overlap,
-    near_part, share_channel,
+    Stretch, StretchPairs, Stretches, TimedZone, TimedZones, ZoneBox, ZoneStretch, are_compared,
+    share_channel,
 };
 
 /// What is told of a box of a stretch: the box, how it is named, with which events its stretch begins and ends, and the entry of the
@@ -290,128 +287,35 @@ fn add_in_boxes(
     Ok(())
 }
 
-/// Adds the boxes of two stretches that meet, where the stretches may overlap.
-#[tactic(auto, unfolding(crate::specs::MeetingSteps::met_in_stretches))]
-fn add_in_stretches(
+/// Adds the boxes of two zones that meet.
+fn add_of_zones(
     list: &mut Vec<Meeting>,
     scene: &Scene,
-    left: &ZoneStretch,
-    right: &ZoneStretch,
+    left: &TimedZone,
+    right: &TimedZone,
 ) -> Result<(), AllocError>
     requires fit { All (All IsFit) scene.now.run.now.items }
     requires deep { scene.now.job.now.depth ≤ DEPTH_LIMIT }
+    requires timed { AreTimed (is_before_in scene.now.clocks.now.rows) (left.now, right.now) }
     ensures { OnOk result (list.new.items ≡ list.old.items
-        ++ model.met_in_stretches (case_of scene.now) left.now.zone.now left.now.stretch.now
-        right.now.zone.now right.now.stretch.now) }
+        ++ model.met_with (case_of scene.now) (left.now, right.now)) }
 {
-    if may_overlap(scene.clocks, left.stretch, right.stretch) {
-        add_in_boxes(list, scene, left, right)?;
+    for pair in StretchPairs::of(scene.clocks, left, right) {
+        add_in_boxes(list, scene, &pair.left, &pair.right)?;
     }
     Ok(())
 }
 
-/// Adds the boxes of a stretch and of some stretches of another zone that meet.
-fn add_against(
-    list: &mut Vec<Meeting>,
-    scene: &Scene,
-    left: &ZoneStretch,
-    other: &ZoneLine,
-    others: &[Stretch],
-) -> Result<(), AllocError>
+/// The boxes of each two of these zones that meet.
+fn met_in(scene: &Scene, zones: &TimedZones) -> Result<Vec<Meeting>, AllocError>
     requires fit { All (All IsFit) scene.now.run.now.items }
     requires deep { scene.now.job.now.depth ≤ DEPTH_LIMIT }
-    ensures { OnOk result (list.new.items ≡ list.old.items
-        ++ flat_map (model.met_in_stretches (case_of scene.now) left.now.zone.now left.now.stretch.now other.now)
-        others.now) }
+    requires timed { All (AreTimed (is_before_in scene.now.clocks.now.rows)) (each_two zones.now) }
+    ensures { IfOk result (λ met. met.items ≡ flat_map (model.met_with (case_of scene.now)) (each_two zones.now)) }
 {
-    for stretch in others {
-        let right = ZoneStretch {
-            zone: other,
-            stretch,
-        };
-        add_in_stretches(list, scene, left, &right)?;
-    }
-    Ok(())
-}
-
-/// The same of all stretches of another zone. Where these ascend, those alone are looked at that may overlap the stretch.
-fn add_beside(
-    list: &mut Vec<Meeting>,
-    scene: &Scene,
-    left: &ZoneStretch,
-    other: &ListedZone,
-    range: &mut IndexRange,
-) -> Result<(), AllocError>
-    requires fit { All (All IsFit) scene.now.run.now.items }
-    requires deep { scene.now.job.now.depth ≤ DEPTH_LIMIT }
-    requires passing { other.now.ascends ≡ true → (ended : Bool)
-        → PassFirst (passes (is_before_in scene.now.clocks.now.rows) ended left.now.stretch.now)
-        other.now.stretches.now }
-    ensures { OnOk result (list.new.items ≡ list.old.items
-        ++ flat_map (model.met_in_stretches (case_of scene.now) left.now.zone.now left.now.stretch.now
-        other.now.zone.now)
-        other.now.stretches.now) }
-{
-    let others = other.stretches;
-    let near = near_part(scene.clocks, left.stretch, others, other.ascends, range);
-    add_against(list, scene, left, other.zone, near)?;
-    Ok(())
-}
-
-/// Adds the boxes of the stretches of two zones that meet.
-fn add_in_zones(
-    list: &mut Vec<Meeting>,
-    scene: &Scene,
-    zone: &ZoneLine,
-    owns: &[Stretch],
-    other: &ListedZone,
-) -> Result<(), AllocError>
-    requires fit { All (All IsFit) scene.now.run.now.items }
-    requires deep { scene.now.job.now.depth ≤ DEPTH_LIMIT }
-    requires timed { IsTimed (is_before_in scene.now.clocks.now.rows) (owns.now ∷ (other.now.stretches.now ∷ [])) }
-    requires ascend { other.now.ascends ≡ true
-        → ascents.is_chain (is_before_in scene.now.clocks.now.rows) other.now.stretches.now ≡ true }
-    ensures { OnOk result (list.new.items ≡ list.old.items
-        ++ flat_map (λ left. flat_map (model.met_in_stretches
-        (case_of scene.now)
-        zone.now left other.now.zone.now) other.now.stretches.now) owns.now) }
-{
-    let mut range = IndexRange { from: 0, upto: 0 };
-    for stretch in owns {
-        let left = ZoneStretch { zone, stretch };
-        add_beside(list, scene, &left, other, &mut range)?;
-    }
-    Ok(())
-}
-
-/// The same of a row.
-fn add_in_row(list: &mut Vec<Meeting>, scene: &Scene, row: &Row) -> Result<(), AllocError>
-    requires fit { All (All IsFit) scene.now.run.now.items }
-    requires deep { scene.now.job.now.depth ≤ DEPTH_LIMIT }
-    requires timed { IsRowTimed (is_before_in scene.now.clocks.now.rows) row.now }
-    ensures { OnOk result (list.new.items ≡ list.old.items
-        ++ model.met_in_row (case_of scene.now) row.now) }
-{
-    let other = ListedZone {
-        zone: row.other,
-        stretches: row.others,
-        ascends: is_chain(scene.clocks, row.others),
-    };
-    add_in_zones(list, scene, row.zone, row.owns, &other)?;
-    Ok(())
-}
-
-/// The boxes of the stretches of some rows that meet.
-fn met_in(alloc: Global, scene: &Scene, rows: &[Row]) -> Result<Vec<Meeting>, AllocError>
-    requires fit { All (All IsFit) scene.now.run.now.items }
-    requires deep { scene.now.job.now.depth ≤ DEPTH_LIMIT }
-    requires timed { All (IsRowTimed (is_before_in scene.now.clocks.now.rows)) rows.now }
-    ensures { IfOk result (λ met. met.items ≡ flat_map
-        (model.met_in_row (case_of scene.now)) rows.now) }
-{
-    let mut list = Vec::new(alloc);
-    for row in rows {
-        add_in_row(&mut list, scene, row)?;
+    let mut list = Vec::new(scene.alloc);
+    for pair in zones.pairs() {
+        add_of_zones(&mut list, scene, &pair.0, &pair.1)?;
     }
     Ok(list)
 }
@@ -431,16 +335,13 @@ pub fn meetings_of(
     ensures { IfOk result (λ met. met.items ≡ meetings_of (is_before_in clocks.now.rows)
         job.now run.now stretches.now) }
 {
-    let times = times_of(alloc, job, stretches)?;
-    let all = times.as_slice();
-    let rows = rows_of(alloc, all)?;
-    let parts = rows.as_slice();
+    let zones = TimedZones::of(job, stretches, clocks);
     let scene = Scene {
         alloc,
         job,
         run,
         clocks,
     };
-    let list = met_in(alloc, &scene, parts)?;
+    let list = met_in(&scene, &zones)?;
     Ok(list)
 }

@@ -1,29 +1,27 @@
 //! How near the compared boxes of two groups come to each other.
-ghost use Rattle.std.specs.Prelude.{◌≡◌, ◌≤◌, ◌++◌, ◌∷◌, [], min, max, Bool, true, All, List, OnOk, IfOk, IfSome};
+ghost use Rattle.std.specs.Prelude.{◌≡◌, ◌≤◌, ◌++◌, ◌∷◌, [], min, max, true, All, List, OnOk, IfOk, IfSome};
 ghost use Rattle.std.specs.List.{Any, flat_map, list_any};
 ghost use Rattle.job_lines.specs.declared.limits.TheConstants.{DEPTH_LIMIT};
 ghost use Rattle.job_types.specs.Job.{JobView};
 ghost use Rattle.job_types.specs.SoundJob.{IsSoundJob};
-ghost use Rattle.zone_stretches.specs.Ascents as ascents;
-ghost use Rattle.zone_stretches.specs.Ascents.{IsTimed, PassFirst, passes};
 ghost use Rattle.explain_meetings.specs.KeptBoxes.{AreKept, IsAt};
 ghost use Rattle.explain_meetings.specs.Meetings.{told_place};
 ghost use Rattle.zone_stretches.specs.Cases.{box_of};
 ghost use Rattle.explain_meetings.specs.Nearest as model;
 ghost use Rattle.explain_meetings.specs.NearSteps as steps;
 ghost use Rattle.explain_meetings.specs.PassedOwns.{AreLookedAt};
-ghost use Rattle.explain_meetings.specs.Rows.{IsRowTimed, pairs_in, row_pairs};
 ghost use Rattle.order_clocks.specs.Tells.{is_before_in};
-ghost use Rattle.zone_stretches.specs.Overlaps.{Pair, compared_pairs, stretch_pairs};
+ghost use Rattle.zone_stretches.specs.Overlaps.{Pair, box_pairs, compared_pairs};
 ghost use Rattle.zone_stretches.specs.Pieces.{piece_boxes};
+ghost use Rattle.zone_stretches.specs.StretchPairs.{boxes_with};
+ghost use Rattle.zone_stretches.specs.TimedZones.{AreTimed, each_two};
 ghost use Rattle.zone_stretches.specs.Told.{IsTold};
 ghost use Rattle.zone_stretches.specs.ZoneBoxes.{IsFit};
 ghost use Rattle.sync_types.specs.Views.{RunView};
 
-use crate::contexts::{ListedZone, PartedBox, PlacedBox, Scene, TwoStretches};
+use crate::contexts::{PartedBox, PlacedBox, Scene, TwoStretches};
 use crate::kept::{are_kept, keep_at, kept_at, lot_of};
 use crate::meetings::told_box;
-use crate::rows::{Row, rows_of, times_of};
 use axis_sets::{ChannelId, ZoneId};
 use explain_places::Place;
 use explain_reach::{PartedBoxes, least_way};
@@ -35,8 +33,8 @@ use std::alloc::{AllocError, Global};
 use swept_boxes::Box3;
 use sync_types::{EventId, Run, StretchKind};
 use zone_stretches::{
-    IndexRange, Stretch, Stretches, ZoneBox, ZoneStretch, are_compared, is_chain, may_overlap,
-    motion_at, near_part, share_channel,
+    StretchPairs, Stretches, TimedZone, TimedZones, ZoneBox, ZoneStretch, are_compared, motion_at,
+    share_channel,
 };
 
 /// The two compared boxes of two groups that come nearest to each other.
@@ -492,8 +490,8 @@ fn look_in_boxes(
     ensures { OnOk result ((seen : List Pair)
         → steps.AreNearestSoFar scene.now.job.now scene.now.run.now seen rows.old.items
         → steps.AreNearestSoFar scene.now.job.now scene.now.run.now
-        (seen ++ steps.pairs_in_boxes left.now.zone.now left.now.stretch.now right.now.zone.now
-        right.now.stretch.now) rows.new.items) }
+        (seen ++ box_pairs left.now.zone.now left.now.stretch.now right.now.zone.now right.now.stretch.now)
+        rows.new.items) }
 {
     let stretch = left.stretch;
     let owns = stretch.boxes.as_slice();
@@ -504,139 +502,38 @@ fn look_in_boxes(
     Ok(())
 }
 
-/// Looks at the boxes of two stretches, where the stretches may overlap.
-fn look_in_stretches(
+/// Looks at the boxes of two zones.
+pub(crate) fn look_of_zones(
     rows: &mut Vec<Near>,
     scene: &Scene,
-    left: &ZoneStretch,
-    right: &ZoneStretch,
+    left: &TimedZone,
+    right: &TimedZone,
 ) -> Result<(), AllocError>
     requires fit { All (All IsFit) scene.now.run.now.items }
     requires deep { scene.now.job.now.depth ≤ DEPTH_LIMIT }
+    requires timed { AreTimed (is_before_in scene.now.clocks.now.rows) (left.now, right.now) }
     ensures { OnOk result ((seen : List Pair)
         → steps.AreNearestSoFar scene.now.job.now scene.now.run.now seen rows.old.items
         → steps.AreNearestSoFar scene.now.job.now scene.now.run.now
-        (seen ++ stretch_pairs (is_before_in scene.now.clocks.now.rows) left.now.zone.now left.now.stretch.now
-        right.now.zone.now right.now.stretch.now) rows.new.items) }
+        (seen ++ boxes_with (is_before_in scene.now.clocks.now.rows) (left.now, right.now)) rows.new.items) }
 {
-    if may_overlap(scene.clocks, left.stretch, right.stretch) {
-        look_in_boxes(rows, scene, left, right)?;
+    for pair in StretchPairs::of(scene.clocks, left, right) {
+        look_in_boxes(rows, scene, &pair.left, &pair.right)?;
     }
     Ok(())
 }
 
-/// Looks at the boxes of a stretch and of some stretches of another zone.
-fn look_against(
-    rows: &mut Vec<Near>,
-    scene: &Scene,
-    left: &ZoneStretch,
-    other: &ZoneLine,
-    others: &[Stretch],
-) -> Result<(), AllocError>
+/// The nearest of each two of these zones.
+fn nearest_in(scene: &Scene, zones: &TimedZones) -> Result<Vec<Near>, AllocError>
     requires fit { All (All IsFit) scene.now.run.now.items }
     requires deep { scene.now.job.now.depth ≤ DEPTH_LIMIT }
-    ensures { OnOk result ((seen : List Pair)
-        → steps.AreNearestSoFar scene.now.job.now scene.now.run.now seen rows.old.items
-        → steps.AreNearestSoFar scene.now.job.now scene.now.run.now
-        (seen ++ flat_map (stretch_pairs (is_before_in scene.now.clocks.now.rows) left.now.zone.now
-        left.now.stretch.now other.now) others.now) rows.new.items) }
-{
-    for stretch in others {
-        let right = ZoneStretch {
-            zone: other,
-            stretch,
-        };
-        look_in_stretches(rows, scene, left, &right)?;
-    }
-    Ok(())
-}
-
-/// The same of all stretches of another zone. Where these ascend, those alone are looked at that may overlap the stretch.
-fn look_beside(
-    rows: &mut Vec<Near>,
-    scene: &Scene,
-    left: &ZoneStretch,
-    other: &ListedZone,
-    range: &mut IndexRange,
-) -> Result<(), AllocError>
-    requires fit { All (All IsFit) scene.now.run.now.items }
-    requires deep { scene.now.job.now.depth ≤ DEPTH_LIMIT }
-    requires passing { other.now.ascends ≡ true → (ended : Bool)
-        → PassFirst (passes (is_before_in scene.now.clocks.now.rows) ended left.now.stretch.now)
-        other.now.stretches.now }
-    ensures { OnOk result ((seen : List Pair)
-        → steps.AreNearestSoFar scene.now.job.now scene.now.run.now seen rows.old.items
-        → steps.AreNearestSoFar scene.now.job.now scene.now.run.now
-        (seen ++ flat_map (stretch_pairs (is_before_in scene.now.clocks.now.rows) left.now.zone.now
-        left.now.stretch.now other.now.zone.now) other.now.stretches.now) rows.new.items) }
-{
-    let others = other.stretches;
-    let near = near_part(scene.clocks, left.stretch, others, other.ascends, range);
-    look_against(rows, scene, left, other.zone, near)?;
-    Ok(())
-}
-
-/// Looks at the boxes of the stretches of two zones.
-fn look_in_zones(
-    rows: &mut Vec<Near>,
-    scene: &Scene,
-    zone: &ZoneLine,
-    owns: &[Stretch],
-    other: &ListedZone,
-) -> Result<(), AllocError>
-    requires fit { All (All IsFit) scene.now.run.now.items }
-    requires deep { scene.now.job.now.depth ≤ DEPTH_LIMIT }
-    requires timed { IsTimed (is_before_in scene.now.clocks.now.rows) (owns.now ∷ (other.now.stretches.now ∷ [])) }
-    requires ascend { other.now.ascends ≡ true
-        → ascents.is_chain (is_before_in scene.now.clocks.now.rows) other.now.stretches.now ≡ true }
-    ensures { OnOk result ((seen : List Pair)
-        → steps.AreNearestSoFar scene.now.job.now scene.now.run.now seen rows.old.items
-        → steps.AreNearestSoFar scene.now.job.now scene.now.run.now
-        (seen ++ flat_map (λ left. flat_map (stretch_pairs (is_before_in scene.now.clocks.now.rows) zone.now left
-        other.now.zone.now) other.now.stretches.now) owns.now) rows.new.items) }
-{
-    let mut range = IndexRange { from: 0, upto: 0 };
-    for stretch in owns {
-        let left = ZoneStretch { zone, stretch };
-        look_beside(rows, scene, &left, other, &mut range)?;
-    }
-    Ok(())
-}
-
-/// The same of a row.
-fn look_in_row(near: &mut Vec<Near>, scene: &Scene, row: &Row) -> Result<(), AllocError>
-    requires fit { All (All IsFit) scene.now.run.now.items }
-    requires deep { scene.now.job.now.depth ≤ DEPTH_LIMIT }
-    requires timed { IsRowTimed (is_before_in scene.now.clocks.now.rows) row.now }
-    ensures { OnOk result ((seen : List Pair)
-        → steps.AreNearestSoFar scene.now.job.now scene.now.run.now seen near.old.items
-        → steps.AreNearestSoFar scene.now.job.now scene.now.run.now
-        (seen ++ row_pairs (is_before_in scene.now.clocks.now.rows) row.now) near.new.items) }
-{
-    let other = ListedZone {
-        zone: row.other,
-        stretches: row.others,
-        ascends: is_chain(scene.clocks, row.others),
-    };
-    look_in_zones(near, scene, row.zone, row.owns, &other)?;
-    Ok(())
-}
-
-/// The nearest of the stretches of some rows.
-pub(crate) fn nearest_in(
-    alloc: Global,
-    scene: &Scene,
-    rows: &[Row],
-) -> Result<Vec<Near>, AllocError>
-    requires fit { All (All IsFit) scene.now.run.now.items }
-    requires deep { scene.now.job.now.depth ≤ DEPTH_LIMIT }
-    requires timed { All (IsRowTimed (is_before_in scene.now.clocks.now.rows)) rows.now }
+    requires timed { All (AreTimed (is_before_in scene.now.clocks.now.rows)) (each_two zones.now) }
     ensures { IfOk result (λ near. steps.AreNearestSoFar scene.now.job.now scene.now.run.now
-        (pairs_in (is_before_in scene.now.clocks.now.rows) rows.now) near.items) }
+        (flat_map (boxes_with (is_before_in scene.now.clocks.now.rows)) (each_two zones.now)) near.items) }
 {
-    let mut near = Vec::new(alloc);
-    for row in rows {
-        look_in_row(&mut near, scene, row)?;
+    let mut near = Vec::new(scene.alloc);
+    for pair in zones.pairs() {
+        look_of_zones(&mut near, scene, &pair.0, &pair.1)?;
     }
     Ok(near)
 }
@@ -657,16 +554,13 @@ pub fn nearest_of(
     ensures { IfOk result (λ near. model.AreNearest job.now run.now
         (compared_pairs (is_before_in clocks.now.rows) job.now stretches.now) near.items) }
 {
-    let times = times_of(alloc, job, stretches)?;
-    let all = times.as_slice();
-    let rows = rows_of(alloc, all)?;
-    let parts = rows.as_slice();
+    let zones = TimedZones::of(job, stretches, clocks);
     let scene = Scene {
         alloc,
         job,
         run,
         clocks,
     };
-    let near = nearest_in(alloc, &scene, parts)?;
+    let near = nearest_in(&scene, &zones)?;
     Ok(near)
 }

@@ -1,20 +1,18 @@
 //! What is told of each two zones of a job.
 ghost use Rattle.std.specs.Prelude.{◌≡◌, ◌≤◌, ◌++◌, ◌∷◌, [], All, IfOk, OnOk, find, map};
-ghost use Rattle.std.specs.List.{flat_map};
 ghost use Rattle.std.specs.Option.{option_map};
 ghost use Rattle.job_lines.specs.declared.limits.TheConstants.{DEPTH_LIMIT};
 ghost use Rattle.job_types.specs.SoundJob.{IsSoundJob};
-ghost use Rattle.explain_meetings.specs.PairSteps.{AreReady};
-ghost use Rattle.explain_meetings.specs.Rows.{pairs_in, rows_by_group, rows_for};
+ghost use Rattle.explain_meetings.specs.PairSteps.{AreReady, two_with};
 ghost use Rattle.explain_meetings.specs.ZonePairs as model;
 ghost use Rattle.order_clocks.specs.Tells.{is_before_in};
+ghost use Rattle.zone_stretches.specs.TimedZones.{each_two};
 ghost use Rattle.zone_stretches.specs.Told.{IsTold};
 ghost use Rattle.zone_stretches.specs.ZoneBoxes.{IsFit};
 
 use crate::contexts::Scene;
-use crate::counts::count_in;
-use crate::nearest::{Near, nearest_in};
-use crate::rows::{Time, add_zones, rest, times_of};
+use crate::counts::count_of_zones;
+use crate::nearest::{Near, look_of_zones};
 use axis_sets::{ChannelId, ZoneId};
 use explain_pairs::{Absent, Comparison, PairKind, Presence, ZoneFacts, ZonePair};
 use job_types::Job;
@@ -22,7 +20,7 @@ use order_clocks::Clocks;
 use out_of_memory::NoMemory;
 use std::alloc::{AllocError, Global};
 use sync_types::Run;
-use zone_stretches::{Stretch, Stretches, is_of};
+use zone_stretches::{Stretch, Stretches, TimedZone, TimedZones, is_of};
 
 /// Whether a zone is on in a stretch.
 fn is_on(stretch: &Stretch) -> bool
@@ -82,8 +80,8 @@ fn presence_of(stretches: &[Stretch]) -> Presence
 
 /// The number of a zone, its group, and when it is on.
 #[tactic(auto, unfolding(crate::specs::ZonePairs::facts_of))]
-fn facts_of(time: &Time) -> ZoneFacts
-    ensures { result ≡ model.facts_of time.now }
+fn facts_of(time: &TimedZone) -> ZoneFacts
+    ensures { result ≡ model.facts_of time.now.time }
 {
     ZoneFacts {
         zone: time.zone.zone,
@@ -104,42 +102,40 @@ fn found_with(count: u64, near: &Near) -> Comparison
 }
 
 /// What is found of the boxes of two zones; none where none are compared.
-fn comparison_of<'a>(
+fn comparison_of(
     scene: &Scene,
-    one: &'a Time<'a>,
-    two: &'a Time<'a>,
+    left: &TimedZone,
+    right: &TimedZone,
 ) -> Result<Option<Comparison>, AllocError>
     requires fit { All (All IsFit) scene.now.run.now.items }
     requires deep { scene.now.job.now.depth ≤ DEPTH_LIMIT }
     requires ready { AreReady (is_before_in scene.now.clocks.now.rows) scene.now.job.now scene.now.run.now
-        (rows_for one.now two.now) }
+        (left.now, right.now) }
     ensures { IfOk result (λ found. found ≡ model.comparison_of scene.now.job.now scene.now.run.now
-        (model.pairs_of_two (is_before_in scene.now.clocks.now.rows) one.now two.now)) }
+        (model.pairs_of_two (is_before_in scene.now.clocks.now.rows) left.now.time right.now.time)) }
 {
-    let mut rows = Vec::new(scene.alloc);
-    add_zones(&mut rows, one, two)?;
-    let parts = rows.as_slice();
-    let near = nearest_in(scene.alloc, scene, parts)?;
+    let mut near = Vec::new(scene.alloc);
+    look_of_zones(&mut near, scene, left, right)?;
     let nears = near.as_slice();
     if nears.is_empty() {
         return Ok(None);
     }
-    let count = count_in(scene.clocks, parts);
+    let count = count_of_zones(scene.clocks, left, right);
     Ok(Some(found_with(count, &nears[0])))
 }
 
 /// What is told of two zones.
 #[tactic(auto, unfolding(crate::specs::ZonePairs::two_of))]
-fn two_of<'a>(scene: &Scene, one: &'a Time<'a>, two: &'a Time<'a>) -> Result<ZonePair, AllocError>
+fn two_of(scene: &Scene, left: &TimedZone, right: &TimedZone) -> Result<ZonePair, AllocError>
     requires fit { All (All IsFit) scene.now.run.now.items }
     requires deep { scene.now.job.now.depth ≤ DEPTH_LIMIT }
     requires ready { AreReady (is_before_in scene.now.clocks.now.rows) scene.now.job.now scene.now.run.now
-        (rows_for one.now two.now) }
+        (left.now, right.now) }
     ensures { IfOk result (λ pair. pair ≡ model.two_of (is_before_in scene.now.clocks.now.rows) scene.now.job.now
-        scene.now.run.now one.now two.now) }
+        scene.now.run.now (left.now.time, right.now.time)) }
 {
-    let found = comparison_of(scene, one, two)?;
-    Ok(ZonePair::of(&facts_of(one), &facts_of(two), found))
+    let found = comparison_of(scene, left, right)?;
+    Ok(ZonePair::of(&facts_of(left), &facts_of(right), found))
 }
 
 /// Adds what is told of two zones. Its parts are named here, as the check of a `push` asks for it.
@@ -154,42 +150,20 @@ fn add(pairs: &mut Vec<ZonePair>, pair: &ZonePair) -> Result<(), AllocError>
     Ok(())
 }
 
-/// Adds what is told of a zone with each of some others. What rows are made of is named here, as the check of the loop asks for it.
-fn add_with<'a>(
-    pairs: &mut Vec<ZonePair>,
-    scene: &Scene,
-    one: &'a Time<'a>,
-    others: &'a [Time<'a>],
-) -> Result<(), AllocError>
+/// What is told of each two of these zones. What rows are made of is named here, as the check of the loop asks for it.
+fn each_two_of(scene: &Scene, zones: &TimedZones) -> Result<Vec<ZonePair>, AllocError>
     requires fit { All (All IsFit) scene.now.run.now.items }
     requires deep { scene.now.job.now.depth ≤ DEPTH_LIMIT }
-    requires ready { AreReady (is_before_in scene.now.clocks.now.rows) scene.now.job.now scene.now.run.now
-        (flat_map (rows_for one.now) others.now) }
-    ensures { OnOk result (pairs.new.items ≡ pairs.old.items
-        ++ map (model.two_of (is_before_in scene.now.clocks.now.rows) scene.now.job.now scene.now.run.now one.now)
-        others.now) }
-{
-    let _parts: Option<(ZoneId, PairKind, Absent, Comparison, ChannelId)> = None;
-    for two in others {
-        let pair = two_of(scene, one, two)?;
-        add(pairs, &pair)?;
-    }
-    Ok(())
-}
-
-/// What is told of each two of these zones. What rows are made of is named here too.
-fn each_two_of<'a>(scene: &Scene, times: &'a [Time<'a>]) -> Result<Vec<ZonePair>, AllocError>
-    requires fit { All (All IsFit) scene.now.run.now.items }
-    requires deep { scene.now.job.now.depth ≤ DEPTH_LIMIT }
-    requires ready { AreReady (is_before_in scene.now.clocks.now.rows) scene.now.job.now scene.now.run.now
-        (rows_by_group times.now) }
-    ensures { IfOk result (λ pairs. pairs.items ≡ model.each_two_of
-        (is_before_in scene.now.clocks.now.rows) scene.now.job.now scene.now.run.now times.now) }
+    requires ready { All (AreReady (is_before_in scene.now.clocks.now.rows) scene.now.job.now scene.now.run.now)
+        (each_two zones.now) }
+    ensures { IfOk result (λ pairs. pairs.items ≡ map (two_with (is_before_in scene.now.clocks.now.rows)
+        scene.now.job.now scene.now.run.now) (each_two zones.now)) }
 {
     let _parts: Option<(ZoneId, PairKind, Absent, Comparison, ChannelId)> = None;
     let mut pairs = Vec::new(scene.alloc);
-    for place in 0..times.len() {
-        add_with(&mut pairs, scene, &times[place], rest(times, place + 1))?;
+    for two in zones.pairs() {
+        let pair = two_of(scene, &two.0, &two.1)?;
+        add(&mut pairs, &pair)?;
     }
     Ok(pairs)
 }
@@ -197,7 +171,6 @@ fn each_two_of<'a>(scene: &Scene, times: &'a [Time<'a>]) -> Result<Vec<ZonePair>
 /// What is told of each two zones of a job in a run, in the order of their numbers: the first that holds of one group, a zone that is
 /// never on, boxes that are compared, with their count and how near they come, and boxes that are all kept apart in time. It takes
 /// memory for each two zones, and while two stretches are looked at for the boxes by which those of the second are compared.
-#[tactic(auto, unfolding(crate::specs::ZonePairs::zone_pairs_of))]
 pub fn zone_pairs_of(
     alloc: Global,
     job: &Job,
@@ -211,14 +184,13 @@ pub fn zone_pairs_of(
     ensures { IfOk result (λ pairs. pairs.items
         ≡ model.zone_pairs_of (is_before_in clocks.now.rows) job.now run.now stretches.now) }
 {
-    let times = times_of(alloc, job, stretches)?;
-    let all = times.as_slice();
+    let zones = TimedZones::of(job, stretches, clocks);
     let scene = Scene {
         alloc,
         job,
         run,
         clocks,
     };
-    let pairs = each_two_of(&scene, all)?;
+    let pairs = each_two_of(&scene, &zones)?;
     Ok(pairs)
 }

@@ -18,6 +18,7 @@ use Rattle.order_clocks.specs.Before.{FreedAxis, InChannel, moment}
 use Rattle.order_clocks.specs.Clocked.{moves_in}
 use Rattle.order_clocks.specs.Happenings.{Freed, gives, happening_at}
 use Rattle.sync_types.proofs.BoardTests.{no_truth}
+use Rattle.sync_types.proofs.FreeTakings.{first_robs_nobody}
 use Rattle.sync_types.proofs.Links.{are_one_alike}
 use Rattle.sync_types.specs.Boards.{Board, first_board, is_this}
 use Rattle.sync_types.specs.Events.{AreOne}
@@ -549,7 +550,7 @@ zone_ascends job start run zone comes is =
     let moves : List Move = moves_in run.entries in
     let os : List OccurrenceView = occurrences_from b 0 moves in
     let running : AreOfRunning b moves = running_moves run.entries b comes.entries in
-    let hands : HandsAre zone zone.holder os = subst (λ (p : Option ℕ). HandsAre zone p os) is.holder (run_hands moves b zone 0 (zones_first start comes.sound) is.axes) in
+    let hands : HandsAre zone zone.holder os = subst (λ (p : Option ℕ). HandsAre zone p os) is.holder (run_hands moves b zone 0 (first_robs_nobody start) (zones_first start comes.sound) is.axes) in
     let same : flat_map (stretches_in_tenure job zone (spans_of job run.items os)) (tenures_from zone (λ c. 0) (first_tenure job zone) os)
     ≡ line job zone run.items (first_beginning job) (first_tenure job zone).begins zone.holder os =
     line_is job zone run.items (spans_of job run.items os) os (λ c. 0) (first_beginning job) (first_tenure job zone) (λ c. refl)
@@ -581,7 +582,7 @@ pub spans_end_with_tenures : (job : JobView) (start : StartView) (items : List (
 unfolding spans_of tenures_of occurrences_of
 spans_end_with_tenures job start items moves zone zones is =
     let os : List OccurrenceView = occurrences_from (first_board start) 0 moves in
-    let hands : HandsAre zone zone.holder os = subst (λ (p : Option ℕ). HandsAre zone p os) is.holder (run_hands moves (first_board start) zone 0 zones is.axes) in
+    let hands : HandsAre zone zone.holder os = subst (λ (p : Option ℕ). HandsAre zone p os) is.holder (run_hands moves (first_board start) zone 0 (first_robs_nobody start) zones is.axes) in
     all_itself job zone items (spans_of job items os) os (λ c. 0) (first_beginning job) (first_tenure job zone) (λ c. refl)
     (record { lasts = refl; unended = refl; begun_at = λ c owns. omega arith }) hands
 

@@ -61,19 +61,19 @@ act_told b m ms = record {
 
 -- who waits for axes rests on those that it took
 axes_rest : (g : Going) (s : State) (x : ℕ) → waits_for_axes s ≡ true → among g.took x ≡ true → IsIn (Freed x) (rests_in g s)
-axes_rest g (IsHolding (AtAxes axes) line) x waits on = in_map Freed x g.took (is_in g.took x on)
+axes_rest g (IsHolding (AtAxes from_standing axes) line) x waits on = in_map Freed x g.took (is_in g.took x on)
 axes_rest g other x waits on = no_truth false waits refl
 
 asks_waits : (s : State) (x : ℕ) → among (axes_asked s) x ≡ true → waits_for_axes s ≡ true
-asks_waits (IsHolding (AtAxes axes) line) x on = refl
+asks_waits (IsHolding (AtAxes from_standing axes) line) x on = refl
 asks_waits other x on = no_truth false on refl
 
 abbrev axes_in : Option (Hold × ℕ) → Bool
-axes_in (Some (AtAxes axes, line)) = true
+axes_in (Some (AtAxes from_standing axes, line)) = true
 axes_in other = false
 
 waits_in : (s : State) → waits_for_axes s ≡ axes_in (wait_in s)
-waits_in (IsHolding (AtAxes axes) line) = refl
+waits_in (IsHolding (AtAxes from_standing axes) line) = refl
 waits_in (IsHolding (AtMarks number named) line) = refl
 waits_in (IsHolding (AtEnds named) line) = refl
 waits_in other = refl

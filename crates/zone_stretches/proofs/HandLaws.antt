@@ -15,6 +15,7 @@ use Rattle.order_clocks.specs.Happenings.{axes_freed, happening_of}
 use Rattle.zone_stretches.specs.Occurrences.{OccurrenceView, act_of, going_on_of, occurrences_in, occurrences_from}
 use Rattle.zone_stretches.specs.Tenures.{carry, changes_hands, is_carried_by}
 use Rattle.sync_types.proofs.BoardTests.{first_passes, no_truth, passes, not_not, some_pass}
+use Rattle.sync_types.proofs.FreeTakings.{NobodyRobs, goes_rob_nobody, own_part_robs_nobody, step_robs_nobody, taking_robs_nobody}
 use Rattle.sync_types.proofs.TakenAxes.{taken_is_free}
 use Rattle.sync_types.specs.BoardActions.{after_part, after_own_part, axes_to_free, carries, channels_started, holder_after, ownership_after}
 use Rattle.sync_types.specs.BoardAlarms.{alarm_of, lets_go_of_others}
@@ -222,10 +223,10 @@ bare_hands zone owner i all f (c ∷ cs) none =
     )
 
 -- who takes the axes of a zone takes them from nobody
-taker_none : (b : Board) (c : ℕ) (zone : ZoneLine) → can_take b c ≡ true → Zones b → IsFor zone b → carry zone (among (axes_to_take b c)) ≡ true → b.holder zone.zone ≡ None
-taker_none b c zone takes zones for on =
+taker_none : (b : Board) (c : ℕ) (zone : ZoneLine) → NobodyRobs b → can_take b c ≡ true → Zones b → IsFor zone b → carry zone (among (axes_to_take b c)) ≡ true → b.holder zone.zone ≡ None
+taker_none b c zone none takes zones for on =
     let w = carry_from zone (among (axes_to_take b c)) on in
-    sym (zones.owner zone.zone w.0 (for w.0 ∙ w.1)) ∙ free_none (b.axis w.0) (taken_is_free b c w.0 takes w.2)
+    sym (zones.owner zone.zone w.0 (for w.0 ∙ w.1)) ∙ free_none (b.axis w.0) (taken_is_free b c w.0 (none c) takes w.2)
 
 taker_holder : (b : Board) (c : ℕ) (zone : ZoneLine) → IsFor zone b → (after_taking b c).holder zone.zone ≡ cond (carry zone (among (axes_to_take b c))) (Some c) (b.holder zone.zone)
 unfolding holder_after_taking
@@ -237,15 +238,15 @@ record TakenOn (zone : ZoneLine) (i : ℕ) (all goings : List Going) (b after : 
   holder : owners_next zone (b.holder zone.zone) (map (going_on_of i all) goings) ≡ after.holder zone.zone
   start : after.start ≡ b.start
 
-takings_hands : (n : ℕ) (b : Board) (zone : ZoneLine) (i : ℕ) (all : List Going) → Zones b → IsFor zone b → TakenOn zone i all (takings n b).goings b (takings n b).board
-takings_hands zero b zone i all zones for = record { hands = tt; holder = refl; start = refl }
-takings_hands (suc n) b zone i all zones for = next (takings_hands n) (next_taker b) refl
+takings_hands : (n : ℕ) (b : Board) (zone : ZoneLine) (i : ℕ) (all : List Going) → NobodyRobs b → Zones b → IsFor zone b → TakenOn zone i all (takings n b).goings b (takings n b).board
+takings_hands zero b zone i all none zones for = record { hands = tt; holder = refl; start = refl }
+takings_hands (suc n) b zone i all none zones for = next (takings_hands n) (next_taker b) refl
   where
-    next : ((a : Board) (z : ZoneLine) (j : ℕ) (gs : List Going) → Zones a → IsFor z a → TakenOn z j gs (takings n a).goings a (takings n a).board)
+    next : ((a : Board) (z : ZoneLine) (j : ℕ) (gs : List Going) → NobodyRobs a → Zones a → IsFor z a → TakenOn z j gs (takings n a).goings a (takings n a).board)
         → (taker : Option ℕ) → next_taker b ≡ taker → TakenOn zone i all (takings_from (takings n) b taker).goings b (takings_from (takings n) b taker).board
     next rest None is = record { hands = tt; holder = refl; start = refl }
     next rest (Some c) is =
-        let more = rest (after_taking b c) zone i all (zones_taking b c zones) for in
+        let more = rest (after_taking b c) zone i all (taking_robs_nobody b c none) (zones_taking b c zones) for in
         let gs : List Going = (takings n (after_taking b c)).goings in
         let same : owner_next zone (b.holder zone.zone) (going_on_of i all (going_of_taker b c)) ≡ (after_taking b c).holder zone.zone =
         going_owner zone (b.holder zone.zone) i all (going_of_taker b c) ∙ sym (taker_holder b c zone for) in
@@ -253,7 +254,7 @@ takings_hands (suc n) b zone i all zones for = next (takings_hands n) (next_take
           hands = (
             (λ on. no_truth (carry zone (λ axis. false)) on (carry_none zone)),
             (λ on. no_truth (carry zone (λ axis. false)) on (carry_none zone)),
-            (λ on. taker_none b c zone (first_passes (can_take b) channel_numbers c is) zones for on),
+            (λ on. taker_none b c zone none (first_passes (can_take b) channel_numbers c is) zones for on),
             subst (λ (p : Option ℕ). HandsAre zone p (map (going_on_of i all) gs)) (sym same) more.hands,
           );
           holder = subst (λ (p : Option ℕ). owners_next zone p (map (going_on_of i all) gs) ≡ (takings n (after_taking b c)).board.holder zone.zone) (sym same) more.holder;
@@ -266,11 +267,11 @@ map-append : {A C : Type 0} (f : A → C) (xs ys : List A) → map f (xs ++ ys) 
 map-append f [] ys = refl
 map-append f (x ∷ xs) ys = ap (λ (rest : List _). f x ∷ rest) (map-append f xs ys)
 
-goings_hands : (b : Board) (starts : List ℕ) (zone : ZoneLine) (i : ℕ) (all : List Going) → Zones b → IsFor zone b → TakenOn zone i all (goings_on b starts) b (all_takings (after_goes b)).board
-goings_hands b starts zone i all zones for =
+goings_hands : (b : Board) (starts : List ℕ) (zone : ZoneLine) (i : ℕ) (all : List Going) → NobodyRobs b → Zones b → IsFor zone b → TakenOn zone i all (goings_on b starts) b (all_takings (after_goes b)).board
+goings_hands b starts zone i all none zones for =
     let one = bare_hands zone (b.holder zone.zone) i all (going_of_start b) starts (λ c. refl) in
     let two = bare_hands zone (b.holder zone.zone) i all (going_at_once b) (goers_at_once b) (λ c. refl) in
-    let three = takings_hands CHANNEL_LIMIT (after_goes b) zone i all (zones_goes b zones) for in
+    let three = takings_hands CHANNEL_LIMIT (after_goes b) zone i all (goes_rob_nobody b none) (zones_goes b zones) for in
     let started : List OccurrenceView = map (going_on_of i all) (map (going_of_start b) starts) in
     let at_once : List OccurrenceView = map (going_on_of i all) (map (going_at_once b) (goers_at_once b)) in
     let takers : List OccurrenceView = map (going_on_of i all) (all_takings (after_goes b)).goings in
@@ -295,16 +296,16 @@ start_of_part : (b : Board) (c : ℕ) (step : Step) (alarm : Option ℕ) → (af
 start_of_part b c step (Some code) = refl
 start_of_part b c step None = refl
 
-pub step_hands : (b : Board) (m : Move) (zone : ZoneLine) (i : ℕ) → Zones b → IsFor zone b
+pub step_hands : (b : Board) (m : Move) (zone : ZoneLine) (i : ℕ) → NobodyRobs b → Zones b → IsFor zone b
     → HandsAre zone (b.holder zone.zone) (occurrences_in i m.step (happening_of b m.channel m.step))
     × (owners_next zone (b.holder zone.zone) (occurrences_in i m.step (happening_of b m.channel m.step)) ≡ (after_step b m.channel m.step).holder zone.zone)
     × IsFor zone (after_step b m.channel m.step)
-step_hands b m zone i zones for =
+step_hands b m zone i none zones for =
     let own : Board = after_own_part b m.channel m.step in
     let goings : List Going = goings_in_step b m.channel m.step in
     let kept : own.start ≡ b.start = start_of_part b m.channel m.step (alarm_of b m.channel m.step.action) in
     let for_own : IsFor zone own = λ x. ap (λ s. has (axes_of_zone s zone.zone) x) kept ∙ for x in
-    let rest = goings_hands own (channels_started (alarm_of b m.channel m.step.action) m.step.action) zone i goings (zones_part b m.channel m.step zones) for_own in
+    let rest = goings_hands own (channels_started (alarm_of b m.channel m.step.action) m.step.action) zone i goings (own_part_robs_nobody b m.channel m.step none) (zones_part b m.channel m.step zones) for_own in
     let same : owner_next zone (b.holder zone.zone) (act_of i m.step (happening_of b m.channel m.step)) ≡ own.holder zone.zone =
     act_owner zone (b.holder zone.zone) i m.channel b m.step ∙ sym (part_holder b m.channel m.step zone for) in (
       (
@@ -318,10 +319,10 @@ step_hands b m zone i zones for =
     )
 
 -- along the events of a run
-pub run_hands : (ms : List Move) (b : Board) (zone : ZoneLine) (i : ℕ) → Zones b → IsFor zone b → HandsAre zone (b.holder zone.zone) (occurrences_from b i ms)
-run_hands [] b zone i zones for = tt
-run_hands (m ∷ ms) b zone i zones for =
-    let here = step_hands b m zone i zones for in
+pub run_hands : (ms : List Move) (b : Board) (zone : ZoneLine) (i : ℕ) → NobodyRobs b → Zones b → IsFor zone b → HandsAre zone (b.holder zone.zone) (occurrences_from b i ms)
+run_hands [] b zone i none zones for = tt
+run_hands (m ∷ ms) b zone i none zones for =
+    let here = step_hands b m zone i none zones for in
     hands-append zone (b.holder zone.zone) (occurrences_in i m.step (happening_of b m.channel m.step)) (occurrences_from (after_step b m.channel m.step) (suc i) ms) here.0
     (subst (λ (p : Option ℕ). HandsAre zone p (occurrences_from (after_step b m.channel m.step) (suc i) ms)) (sym here.1)
-    (run_hands ms (after_step b m.channel m.step) zone (suc i) (zones_step b m.channel m.step zones) here.2))
+    (run_hands ms (after_step b m.channel m.step) zone (suc i) (step_robs_nobody b m.channel m.step none) (zones_step b m.channel m.step zones) here.2))

@@ -19,3 +19,4 @@ pub mod NearLaws
 pub mod TimeLaws
 pub mod WalkLaws
 pub mod TimedLaws
+pub mod StretchPairLaws

@@ -99,7 +99,7 @@ in_range (suc n) a c (inl same) = (omega arith, omega arith)
 in_range (suc n) a c (inr more) = let rest = in_range n (a + 1) c more in (omega (arith, rest.0), omega (arith, rest.1))
 
 axes_not_marks : (s : State) → waits_for_axes s ≡ true → at_marks s ≡ false
-axes_not_marks (IsHolding (AtAxes axes) line) on = refl
+axes_not_marks (IsHolding (AtAxes from_standing axes) line) on = refl
 axes_not_marks other on = no_truth false on refl
 
 pub in_mapped : {A C : Type 0} (f : A → C) (y : C) (xs : List A) → IsIn y (map f xs) → (x : A) × (IsIn x xs × (y ≡ f x))

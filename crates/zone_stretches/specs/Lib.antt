@@ -4,6 +4,7 @@ pub mod Tenures
 pub mod ZoneBoxes
 pub mod Stretches
 pub mod TimedZones
+pub mod StretchPairs
 pub mod Told
 pub mod Overlaps
 pub mod Cases

@@ -7,6 +7,7 @@ mod laws;
 mod overlaps;
 mod pieces;
 mod sights;
+mod stretch_pairs;
 mod stretches;
 mod threads;
 mod timed_zones;
@@ -24,6 +25,7 @@ pub use laws::{
 pub use overlaps::{are_compared, is_of, may_overlap, share_channel, share_place};
 pub use pieces::{boxes_by_pieces, boxes_in_pieces, motion_at, one_box};
 pub use sights::ZoneEffect;
+pub use stretch_pairs::{StretchPair, StretchPairs};
 pub use stretches::{Stretch, Stretches, ZoneBox, lists_of};
 pub use timed_zones::{TimedPairs, TimedZone, TimedZones, ZoneStretch};
 pub use zone_boxes::{standing_zone_box, zone_box};
