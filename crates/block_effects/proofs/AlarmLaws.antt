@@ -1,5 +1,5 @@
 -- The alarms of blocks are in the table of alarms.
-use Rattle.std.proofs.Common.{◌≡◌, ℕ, ℤ, pos, negsuc, ◌^◌, ◌%◌, ◌/◌, ◌==◌, ◌&&◌, ◌++◌, ◌+ℤ◌, Bool, true, false, not, cond, nat_lt, int_lt, List, [], ◌∷◌, Option, None, Some, is_some, get_or, Result, Ok, Err, set, refl}
+use Rattle.std.proofs.Common.{◌≡◌, ℕ, ℤ, pos, negsuc, ◌^◌, ◌%◌, ◌/◌, ◌==◌, ◌&&◌, ◌++◌, ◌+ℤ◌, Bool, true, false, not, cond, nat_lt, int_lt, List, [], ◌∷◌, Option, None, Some, is_some, option_map, get_or, Result, Ok, Err, set, refl}
 use Rattle.std.specs.Prelude.{⊤}
 use Rattle.std.specs.Ordering.{int_eq}
 use Rattle.std.specs.Int.RustNames.{unsigned_abs}
@@ -26,29 +26,21 @@ use Rattle.nc_expressions.specs.Symbols.{index_of}
 use Rattle.nc_expressions.specs.Tree.{Tree, Number, Parameter, Indexed, Unary, Binary}
 use Rattle.nc_expressions.specs.Value.{◌>>=◌, in_range_or_alarm, quotient_or_alarm, root_or_alarm, unary_value, binary_value, at_index, value_of}
 use Rattle.nc_expressions.specs.Values.{Values}
+use Rattle.nc_expressions.proofs.ListedAlarms.{IsListed, bind_listed, checked_listed, value_listed}
 use Rattle.fault_codes.specs.Codes.{IsAlarmCode, alarm_codes}
+use Rattle.nc_blocks.specs.AxisNames.{slot_named}
 use Rattle.nc_blocks.specs.declared.blocks.FrameWord.{FrameWord}
 use Rattle.nc_blocks.specs.declared.blocks.FrameWord.TheVariants.{Trans, Atrans, Scale, Ascale, Mirror, Amirror}
 use Rattle.nc_blocks.specs.Statement.{OperandView, Value, Text, AxisName, WordView, Assign, AssignAt, G, Axis, Radius, Aux, End, Statement, WordBlock, IfJump, If, While, Until, For, EndFor, Case, RepeatFrom, RepeatBlock, Call, Shape, Turn}
 use Rattle.path_geometry.specs.declared.motion.Motion.{Motion}
-use Rattle.block_effects.specs.Words.{SetupView, Progress, parameter_in, values_in, index_in, first_progress, assignment, given_at, increment, with_parameters, with_targets, programmed_value, slot_named, is_in_slot, programmed_once, slot_programmed, named_programmed, programmed_by, centre_named, with_centre_word, with_radius, with_arc_words, word_progress, option_read, operand_read, aux_read, word_done, words_done}
+use Rattle.block_effects.specs.Words.{SetupView, Progress, parameter_in, values_in, index_in, first_progress, assignment, given_at, increment, with_parameters, with_targets, programmed_value, is_in_slot, programmed_once, slot_programmed, named_programmed, programmed_by, centre_named, with_centre_word, with_radius, with_arc_words, word_progress, option_read, operand_read, aux_read, begins_with, number_in, choices_with_some, tool_chosen, edge_chosen, chosen, with_choices, word_done, words_done}
+use Rattle.tool_offsets.specs.Choices.{Choice, OfTool, OfEdge, choices_with, may_choose}
+use Rattle.tool_offsets.specs.declared.tools.ToolEdge.{ToolEdge}
 use Rattle.block_effects.specs.Shapes.{values_done, no_values, unless_alarmed, chain_with, shape_chain, turn_chain, plane_of, shaped_by, turned_by}
 use Rattle.block_effects.specs.Effects.{SituationView, word_in, in_force, is_arc, has_stray_words, stands_still, motion_made, moved_or_still, words_moved, words_run, words_effect, group_words, frame_effect, Course, turning_with, bound_course, bound_turning, for_continued, times_in, times_of, repetition_course, library_number, number_of, call_course, control_effect, effect_of}
 use Rattle.block_effects.proofs.EffectSteps.{left}
 
 -- the codes that a run can end with
-listed_1 : IsAlarmCode 1
-unfolding IsAlarmCode alarm_codes
-listed_1 = refl
-
-listed_2 : IsAlarmCode 2
-unfolding IsAlarmCode alarm_codes
-listed_2 = refl
-
-listed_3 : IsAlarmCode 3
-unfolding IsAlarmCode alarm_codes
-listed_3 = refl
-
 listed_4 : IsAlarmCode 4
 unfolding IsAlarmCode alarm_codes
 listed_4 = refl
@@ -89,82 +81,13 @@ listed_33 : IsAlarmCode 33
 unfolding IsAlarmCode alarm_codes
 listed_33 = refl
 
--- an alarm, where one comes, is in the table
-abbrev pub IsListed : {A : Type 0} → Result A ℕ → Type 0
-IsListed (Ok x) = ⊤
-IsListed (Err code) = IsAlarmCode code
-
-pub bind_listed : {A B : Type 0} (r : Result A ℕ) (f : A → Result B ℕ) → IsListed r → ((x : A) → IsListed (f x)) → IsListed (r >>= f)
-bind_listed (Ok x) f first rest = rest x
-bind_listed (Err code) f first rest = first
+listed_34 : IsAlarmCode 34
+unfolding IsAlarmCode alarm_codes
+listed_34 = refl
 
 unless : {A : Type 0} (b : Bool) (x : A) (code : ℕ) → IsAlarmCode code → IsListed (cond b (Ok x) (Err code))
 unless true x code listed = tt
 unless false x code listed = listed
-
--- ---- values
-
-checked_listed : (z : ℤ) → IsListed (in_range_or_alarm z)
-unfolding in_range_or_alarm
-checked_listed z = unless (nat_lt (unsigned_abs z) (10 ^ 14)) z 1 listed_1
-
-divided_listed : (divisor : ℤ) (value : Result ℤ ℕ) → IsListed value → IsListed (quotient_or_alarm divisor value)
-unfolding quotient_or_alarm
-divided_listed divisor value listed = by_zero (int_eq divisor (pos 0))
-  where
-    by_zero : (b : Bool) → IsListed (cond b (Err 2) value)
-    by_zero true = listed_2
-    by_zero false = listed
-
-rooted_listed : (z : ℤ) → IsListed (root_or_alarm z)
-unfolding root_or_alarm
-rooted_listed z = by_sign (int_lt z (pos 0))
-  where
-    by_sign : (b : Bool) → IsListed (cond b (Err 3) (Ok (square_root z)))
-    by_sign true = listed_3
-    by_sign false = tt
-
-unary_listed : (op : UnaryOp) (z : ℤ) → IsListed (unary_value op z)
-unfolding unary_value
-unary_listed Minus z = tt
-unary_listed Not z = tt
-unary_listed Abs z = tt
-unary_listed Sqrt z = rooted_listed z
-unary_listed Pot z = checked_listed _
-unary_listed Trunc z = tt
-unary_listed Round z = checked_listed _
-
-binary_listed : (op : BinaryOp) (x y : ℤ) → IsListed (binary_value op x y)
-unfolding binary_value
-binary_listed Add x y = checked_listed _
-binary_listed Sub x y = checked_listed _
-binary_listed Mul x y = checked_listed _
-binary_listed Div x y = divided_listed y _ (checked_listed _)
-binary_listed WholeDiv x y = divided_listed y _ (checked_listed _)
-binary_listed Modulo x y = divided_listed y _ tt
-binary_listed And x y = tt
-binary_listed Or x y = tt
-binary_listed Xor x y = tt
-binary_listed Equal x y = tt
-binary_listed NotEqual x y = tt
-binary_listed Greater x y = tt
-binary_listed Less x y = tt
-binary_listed GreaterEqual x y = tt
-binary_listed LessEqual x y = tt
-
-at_index_listed : (values : Values) (o : Option ℕ) → IsListed (at_index values o)
-at_index_listed values None = listed_4
-at_index_listed values (Some i) = tt
-
-value_listed : (values : Values) (tree : Tree) → IsListed (value_of values tree)
-value_listed values (Number n) = tt
-value_listed values (Parameter i) = tt
-value_listed values (Indexed t) =
-    bind_listed (value_of values t) (λ z. at_index values (index_of z)) (value_listed values t) (λ z. at_index_listed values (index_of z))
-value_listed values (Unary op t) = bind_listed (value_of values t) (λ z. unary_value op z) (value_listed values t) (λ z. unary_listed op z)
-value_listed values (Binary op a b) =
-    bind_listed (value_of values a) (λ x. value_of values b >>= λ y. binary_value op x y) (value_listed values a)
-    (λ x. bind_listed (value_of values b) (λ y. binary_value op x y) (value_listed values b) (λ y. binary_listed op x y))
 
 -- ---- words
 
@@ -249,6 +172,24 @@ operand_listed values (Value tree) = bind_listed (value_of values tree) (λ valu
 operand_listed values (Text bytes) = tt
 operand_listed values (AxisName bytes) = tt
 
+choice_listed : (edges : List ToolEdge) (choices : List Choice) (o : Option Choice) → IsListed (choices_with_some edges choices o)
+unfolding choices_with
+choice_listed edges choices None = listed_34
+choice_listed edges choices (Some choice) = unless (may_choose edges choices choice) (choices ++ choice ∷ []) 34 listed_34
+
+chosen_listed : (tools : Option (List ToolEdge)) (choices : List Choice) (name : List ℕ) (value : Option ℤ) → IsListed (chosen tools choices name value)
+unfolding chosen
+chosen_listed None choices name value = tt
+chosen_listed (Some edges) choices name value = by_letter (begins_with 84 name) (begins_with 68 name)
+  where
+    by_letter : (tool edge : Bool) → IsListed (cond tool (tool_chosen edges choices value) (cond edge (edge_chosen edges choices value) (Ok choices)))
+    by_letter true edge = choice_listed edges choices (option_map OfTool (number_in value))
+    by_letter false true = choice_listed edges choices (option_map OfEdge (number_in value))
+    by_letter false false = tt
+
+with_choices_listed : (p : Progress) (choices : Result (List Choice) ℕ) → IsListed choices → IsListed (with_choices p choices)
+with_choices_listed p choices listed = bind_listed choices (λ new. Ok (record p { choices = new })) listed (λ new. tt)
+
 module _ (equipment : SetupView) where
   addressed_listed : (p : Progress) (name : List ℕ) (o : Option ℕ) (value : Programmed) → IsListed (word_progress equipment p name o value)
   addressed_listed p name (Some axis) value = curved_listed p (with_centre_word p.arc axis value) (centred_listed p.arc axis value)
@@ -267,9 +208,9 @@ module _ (equipment : SetupView) where
       bind_listed (value_of (values_in p.parameters) tree) (λ value. with_arc_words p (with_radius p.arc value)) (value_listed (values_in p.parameters) tree)
       (λ value. curved_listed p (with_radius p.arc value) (rounded_listed p.arc value))
   word_listed p (Aux name index operand) =
-      bind_listed (aux_read (values_in p.parameters) index operand) (λ _. Ok p)
+      bind_listed (aux_read (values_in p.parameters) index operand) (λ value. with_choices p (chosen equipment.tools p.choices name value))
       (bind_listed (option_read (values_in p.parameters) index) (λ _. operand_read (values_in p.parameters) operand) (option_listed (values_in p.parameters) index) (λ _. operand_listed (values_in p.parameters) operand))
-      (λ _. tt)
+      (λ value. with_choices_listed p (chosen equipment.tools p.choices name value) (chosen_listed equipment.tools p.choices name value))
   word_listed p End = tt
 
   words_listed : (p : Progress) (words : List WordView) → IsListed (words_done equipment p words)
@@ -302,10 +243,10 @@ module _ (slots : List (Option ℕ)) (owned : List Bool) (h : ConditionsView) (a
 module _ (equipment : SetupView) (found : SituationView) (line : ℕ) (groups : List GWord) (words : List WordView) where
   words_run_listed : IsListed (words_run equipment found line groups words)
   words_run_listed =
-      bind_listed (words_done equipment (first_progress found.parameters) words) (λ p. words_moved equipment found groups p.targets p.arc >>= λ motion. Ok (left line found p motion))
-      (words_listed equipment (first_progress found.parameters) words)
-      (λ p. bind_listed (words_moved equipment found groups p.targets p.arc) (λ motion. Ok (left line found p motion))
-      (still_listed equipment.slots equipment.owned (in_force equipment found groups) found.at p.targets p.arc groups) (λ motion. tt))
+      bind_listed (words_done equipment (first_progress found.parameters found.choices) words) (λ p. words_moved equipment found groups p >>= λ motion. Ok (left line found p motion))
+      (words_listed equipment (first_progress found.parameters found.choices) words)
+      (λ p. bind_listed (words_moved equipment found groups p) (λ motion. Ok (left line found p motion))
+      (still_listed equipment.slots equipment.owned (in_force equipment found groups p.choices) found.at p.targets p.arc groups) (λ motion. tt))
 
   words_effect_listed : IsListed (words_effect equipment found line groups words)
   words_effect_listed = by_test (has_group_twice groups)

@@ -59,9 +59,9 @@ module _ (equipment : SetupView) (found : SituationView) (line : ℕ) where
 
   run_moves : (groups : List GWord) (words : List WordView) → Moves (words_run equipment found line groups words)
   run_moves groups words =
-      moves_bind (words_done equipment (first_progress found.parameters) words) (λ p. words_moved equipment found groups p.targets p.arc >>= λ motion. Ok (left line found p motion))
-      (λ p done. moves_bind (words_moved equipment found groups p.targets p.arc) (λ motion. Ok (left line found p motion))
-      (λ o made item is. moved_from (in_force equipment found groups) groups p.targets p.arc (movement_of item) (made ∙ ap (λ (m : Option Motion). Ok m) (item_moves o item is))))
+      moves_bind (words_done equipment (first_progress found.parameters found.choices) words) (λ p. words_moved equipment found groups p >>= λ motion. Ok (left line found p motion))
+      (λ p done. moves_bind (words_moved equipment found groups p) (λ motion. Ok (left line found p motion))
+      (λ o made item is. moved_from (in_force equipment found groups p.choices) groups p.targets p.arc (movement_of item) (made ∙ ap (λ (m : Option Motion). Ok m) (item_moves o item is))))
 
   words_move : (groups : List GWord) (words : List WordView) → Moves (words_effect equipment found line groups words)
   words_move groups words = by_test (has_group_twice groups)

@@ -65,8 +65,8 @@ module _ (equipment : SetupView) (found : SituationView) (line : ℕ) where
 
   run_stays : (groups : List GWord) (words : List WordView) → Stays (words_run equipment found line groups words)
   run_stays groups words =
-      stays_bind (words_done equipment (first_progress found.parameters) words) (λ p. words_moved equipment found groups p.targets p.arc >>= λ motion. Ok (left line found p motion))
-      (λ p. stays_bind (words_moved equipment found groups p.targets p.arc) (λ motion. Ok (left line found p motion)) (λ o. by_end p.ends))
+      stays_bind (words_done equipment (first_progress found.parameters found.choices) words) (λ p. words_moved equipment found groups p >>= λ motion. Ok (left line found p motion))
+      (λ p. stays_bind (words_moved equipment found groups p) (λ motion. Ok (left line found p motion)) (λ o. by_end p.ends))
     where
       by_end : {Q : Type 0} (ends : Bool) → searches (course_of ends) ≡ true → Q
       by_end true is = absurd cc
@@ -84,7 +84,7 @@ module _ (equipment : SetupView) (found : SituationView) (line : ℕ) where
   framed_stays (Err code) = tt
 
   turned_stays : (turning : Result Turning ℕ) → Keeps found.parameters turning → Stays (turned_only found turning)
-  turned_stays (Ok t) keeps = λ is. record { parameters = keeps is; chain = refl; item = refl }
+  turned_stays (Ok t) keeps = λ is. record { parameters = keeps is; chain = refl; choices = refl; item = refl }
   turned_stays (Err code) keeps = tt
 
   effect_stays : (opener statement : Statement) → Stays (effect_of equipment found line opener statement)

@@ -1,7 +1,7 @@
 -- A block that programs nothing for an axis or an arc has no motion and no alarm of one.
 use Rattle.std.proofs.Common.{◌≡◌, ℕ, ℤ, Bool, true, false, not, ◌&&◌, ◌||◌, List, Option, None, Ok, is_some, refl}
-use Rattle.block_motions.specs.Arcs.{is_any, arc_motion}
-use Rattle.block_motions.specs.Goals.{ConditionsView}
+use Rattle.block_motions.specs.Arcs.{arc_motion}
+use Rattle.block_motions.specs.Goals.{ConditionsView, is_any}
 use Rattle.block_motions.specs.declared.goals.Targets.{Targets}
 use Rattle.block_motions.specs.declared.words.ArcWords.{ArcWords}
 use Rattle.block_motions.proofs.Unmoved.{unmoved}

@@ -4,9 +4,9 @@ use Rattle.std.specs.List.{list_any}
 use Rattle.std.specs.Option.{option_or}
 use Rattle.std.specs.Ordering.{int_eq}
 use Rattle.std.specs.Str.{bytes_eq}
-use Rattle.block_motions.specs.Arcs.{is_any, arc_motion}
+use Rattle.block_motions.specs.Arcs.{arc_motion}
 use Rattle.block_motions.specs.declared.words.ArcWords.{ArcWords}
-use Rattle.block_motions.specs.Goals.{ConditionsView}
+use Rattle.block_motions.specs.Goals.{ConditionsView, is_any}
 use Rattle.block_motions.specs.Motions.{straight_motion}
 use Rattle.block_motions.specs.declared.goals.Targets.{Targets}
 use Rattle.frames.specs.Maps.{Map}
@@ -23,7 +23,9 @@ use Rattle.path_geometry.specs.declared.motion.Motion.{Motion}
 use Rattle.sync_types.specs.declared.Item.{Item}
 use Rattle.sync_types.specs.declared.Part.TheVariants.{Move}
 use Rattle.block_effects.specs.Shapes.{shaped_by, turned_by, plane_of}
-use Rattle.block_effects.specs.Words.{SetupView, Progress, values_in, assignment, increment, first_progress, words_done}
+use Rattle.block_effects.specs.Words.{SetupView, Progress, edges_of, values_in, assignment, increment, first_progress, words_done}
+use Rattle.tool_offsets.specs.Choices.{Choice, lengths_after}
+use Rattle.tool_offsets.specs.declared.tools.Lengths.{Lengths}
 use Rattle.fault_codes.specs.declared.alarms.TheConstants.{REPETITION_COUNT, NO_SUCH_PROGRAM, ARC_WORDS, GROUP_TWICE}
 use Rattle.g_groups.specs.declared.numbers.TheConstants.{MOTION_GROUP, DWELL_GROUP, AREA_GROUP, PLANE_GROUP, OFFSET_GROUP}
 use Rattle.nc_blocks.specs.declared.limits.TheConstants.{PASS_LIMIT}
@@ -34,10 +36,11 @@ pub data Course : Type 0 where
   Ends : Course
   Calls : ℕ → ℕ → Course
 
--- what a block leaves: the parameters, the frame, its motion with its line, and what becomes of control
+-- what a block leaves: the parameters, the frame, the choices of tools and edges up to it, its motion with its line, and what becomes of control
 pub record Effect : Type 0 where
   pub parameters : List ℤ
   pub chain : List Map
+  pub choices : List Choice
   pub item : Option Item
   pub course : Course
 
@@ -173,23 +176,35 @@ group_words other = []
 unfoldable pub stands_still : List GWord → Bool
 stands_still words = list_any (λ word. word.group == DWELL_GROUP || word.group == AREA_GROUP) words
 
--- what a block finds: the parameters, the words of groups in each block before it, the frame, and where the axes stand
+-- what a block finds: the parameters, the words of groups in each block before it, the frame, the choices of tools and edges, and where the axes stand
 pub record SituationView : Type 0 where
   pub parameters : List ℤ
   pub words : List (List GWord)
   pub chain : List Map
+  pub choices : List Choice
   pub at : ℕ → ℤ
 
 -- the word of a group that holds in a block with these words of groups
 abbrev pub word_in : SituationView → List GWord → ℕ → ℕ
 word_in found words group = modal_word (found.words ++ words ∷ []) group
 
--- what holds after blocks with these words of groups, under this frame and with these offsets
-abbrev pub held_after : (ℕ → ℕ → ℤ) → List (List GWord) → List Map → ConditionsView
-held_after offset blocks chain = record { word = modal_word blocks; chain = chain; offset = λ slot. offset (modal_word blocks OFFSET_GROUP) slot }
+-- the length in a slot: along X and Z the tool has one
+abbrev pub length_in : Lengths → ℕ → ℤ
+length_in lengths slot = if slot == 0 then lengths.x else if slot == 2 then lengths.z else pos 0
 
-abbrev pub in_force : SetupView → SituationView → List GWord → ConditionsView
-in_force equipment found words = held_after equipment.offset (found.words ++ words ∷ []) found.chain
+-- what holds after blocks with these words of groups, under this frame, with these offsets and these lengths of the tool
+abbrev pub held_after : (ℕ → ℕ → ℤ) → List (List GWord) → List Map → Lengths → ConditionsView
+held_after offset blocks chain lengths = record {
+  word = modal_word blocks;
+  chain = chain;
+  offset = λ slot. offset (modal_word blocks OFFSET_GROUP) slot;
+  length = length_in lengths;
+}
+
+-- what holds in a block with these words of groups, after these choices: the lengths are those after all its words
+abbrev pub in_force : SetupView → SituationView → List GWord → List Choice → ConditionsView
+in_force equipment found words choices =
+    held_after equipment.offset (found.words ++ words ∷ []) found.chain (lengths_after (edges_of equipment) choices)
 
 -- G2 and G3 make arcs
 abbrev pub is_arc : ConditionsView → Bool
@@ -210,9 +225,9 @@ moved_or_still slots owned h at words targets arc =
     else if stands_still words then Ok None
     else motion_made slots owned h at targets arc
 
-abbrev pub words_moved : SetupView → SituationView → List GWord → Targets → ArcWords → Result (Option Motion) ℕ
-words_moved equipment found words targets arc =
-    moved_or_still equipment.slots equipment.owned (in_force equipment found words) found.at words targets arc
+abbrev pub words_moved : SetupView → SituationView → List GWord → Progress → Result (Option Motion) ℕ
+words_moved equipment found words p =
+    moved_or_still equipment.slots equipment.owned (in_force equipment found words p.choices) found.at words p.targets p.arc
 
 -- a motion is what a block on this line does
 abbrev pub item_on : ℕ → Motion → Item
@@ -222,18 +237,18 @@ abbrev pub course_of : Bool → Course
 course_of ends = if ends then Ends else Goes outcome.Plain
 
 -- what words do after others that have come so far, and the motion of the block after its last word, or the first alarm
-abbrev pub words_then_motion : SetupView → ConditionsView → (ℕ → ℤ) → List GWord → Progress → List WordView → Result (Progress × Option Motion) ℕ
-words_then_motion equipment h at groups p words =
+abbrev pub words_then_motion : SetupView → (Lengths → ConditionsView) → (ℕ → ℤ) → List GWord → Progress → List WordView → Result (Progress × Option Motion) ℕ
+words_then_motion equipment held at groups p words =
     words_done equipment p words >>= λ q.
-    moved_or_still equipment.slots equipment.owned h at groups q.targets q.arc >>= λ motion.
+    moved_or_still equipment.slots equipment.owned (held (lengths_after (edges_of equipment) q.choices)) at groups q.targets q.arc >>= λ motion.
     Ok (q, motion)
 
 -- the words act from left to right, and then the axes move
 abbrev pub words_run : SetupView → SituationView → ℕ → List GWord → List WordView → Result Effect ℕ
 words_run equipment found line groups words =
-    words_done equipment (first_progress found.parameters) words >>= λ p.
-    words_moved equipment found groups p.targets p.arc >>= λ motion.
-    Ok (record { parameters = p.parameters; chain = found.chain; item = option_map (item_on line) motion; course = course_of p.ends })
+    words_done equipment (first_progress found.parameters found.choices) words >>= λ p.
+    words_moved equipment found groups p >>= λ motion.
+    Ok (record { parameters = p.parameters; chain = found.chain; choices = p.choices; item = option_map (item_on line) motion; course = course_of p.ends })
 
 -- an alarm, before all others, where two words of one group stand in the block
 abbrev pub words_effect : SetupView → SituationView → ℕ → List GWord → List WordView → Result Effect ℕ
@@ -241,11 +256,14 @@ words_effect equipment found line groups words = if has_group_twice groups then 
 
 -- a block of a frame leaves all but the frame
 abbrev pub frame_effect : SituationView → Result (List Map) ℕ → Result Effect ℕ
-frame_effect found made = made >>= λ chain. Ok (record { parameters = found.parameters; chain = chain; item = None; course = Goes outcome.Plain })
+frame_effect found made =
+    made >>= λ chain.
+    Ok (record { parameters = found.parameters; chain = chain; choices = found.choices; item = None; course = Goes outcome.Plain })
 
 abbrev pub turned_only : SituationView → Result Turning ℕ → Result Effect ℕ
 turned_only found turning =
-    turning >>= λ t. Ok (record { parameters = t.parameters; chain = found.chain; item = None; course = t.course })
+    turning >>= λ t.
+    Ok (record { parameters = t.parameters; chain = found.chain; choices = found.choices; item = None; course = t.course })
 
 -- what a block on this line does, or its first alarm; `opener` is the block that begins the structure round it. A turn is in the plane that holds before the block
 unfoldable pub effect_of : SetupView → SituationView → ℕ → Statement → Statement → Result Effect ℕ
@@ -264,8 +282,9 @@ searches (Goes other) = false
 searches Ends = false
 searches (Calls number passes) = true
 
--- a block leaves the parameters and the frame as it finds them, and has no motion
+-- a block leaves the parameters, the frame and the choices as it finds them, and has no motion
 pub record IsStill (found : SituationView) (effect : Effect) : Type 0 where
   pub parameters : effect.parameters ≡ found.parameters
   pub chain : effect.chain ≡ found.chain
+  pub choices : effect.choices ≡ found.choices
   pub item : effect.item ≡ None

@@ -1,11 +1,12 @@
 -- Meaning. What the words of a block do, one after another from left to right.
-use Rattle.std.specs.Prelude.{◌≡◌, ◌≤◌, ⊤, MatchOption, MatchResult, IsOk, ℕ, ◌==◌, ◌||◌, ℤ, pos, ◌+ℤ◌, Bool, true, false, if◌then◌else◌, is_some, List, [], ◌∷◌, codes, replicate, slice_index_or, slice_set, Option, None, Some, Result, Ok, Err}
+use Rattle.std.specs.Prelude.{◌≡◌, ◌≤◌, ⊤, MatchOption, MatchResult, ℕ, ◌==◌, ◌%◌, ◌/◌, ◌||◌, ℤ, pos, negsuc, ◌+ℤ◌, Bool, true, false, if◌then◌else◌, is_some, List, [], ◌∷◌, codes, replicate, slice_index_or, slice_set, Option, None, Some, option_map, unwrap_or, Result, Ok, Err}
 use Rattle.std.specs.List.{list_any}
 use Rattle.std.specs.Str.{bytes_eq}
-use Rattle.block_motions.specs.Arcs.{is_any}
+use Rattle.block_motions.specs.Goals.{is_any}
 use Rattle.block_motions.specs.declared.words.ArcWords.{ArcWords}
 use Rattle.block_motions.specs.declared.goals.Programmed.{Programmed}
 use Rattle.block_motions.specs.declared.goals.Targets.{Targets}
+use Rattle.nc_blocks.specs.AxisNames.{slot_named}
 use Rattle.nc_blocks.specs.declared.blocks.Measure.{Measure}
 use Rattle.nc_expressions.specs.Symbols.{index_of}
 use Rattle.nc_expressions.specs.Tree.{Tree}
@@ -14,9 +15,11 @@ use Rattle.nc_expressions.specs.Values.{Values}
 use Rattle.nc_blocks.specs.Statement.{OperandView, Value, Text, AxisName, WordView, Assign, AssignAt, G, Axis, Radius, Aux, End}
 use Rattle.block_effects.specs.declared.parameters.Change.{Change}
 use Rattle.block_effects.specs.declared.progress.WordsDone.{WordsDone}
-use Rattle.fault_codes.specs.declared.alarms.TheConstants.{PARAMETER_INDEX, ADDRESS_TWICE, NO_SUCH_AXIS, GEOMETRY_AXIS_BY_NAME}
+use Rattle.fault_codes.specs.declared.alarms.TheConstants.{PARAMETER_INDEX, ADDRESS_TWICE, NO_SUCH_AXIS, NO_SUCH_TOOL, GEOMETRY_AXIS_BY_NAME}
 use Rattle.nc_expressions.specs.declared.limits.TheConstants.{PARAMETER_LIMIT, LAST_PARAMETER}
 use Rattle.axis_sets.specs.declared.limits.TheConstants.{AXIS_LIMIT}
+use Rattle.tool_offsets.specs.Choices.{Choice, OfTool, OfEdge, choices_with, in_use_after}
+use Rattle.tool_offsets.specs.declared.tools.ToolEdge.{ToolEdge}
 
 -- ---- parameters
 
@@ -47,21 +50,14 @@ index_in None = Err PARAMETER_INDEX
 
 -- ---- axes
 
--- what the programs of a channel find in their job and in the channel: the names of the programs in the order of their numbers, the axis with a name, the settable offset of a slot under a word of its group in micrometres; the axes in the slots X, Y and Z, and whether the channel owns an axis
+-- what the programs of a channel find in their job and in the channel: the names of the programs in the order of their numbers, the axis with a name, the settable offset of a slot under a word of its group in micrometres, the edges of the tools of the channel, or none where it has no tools; the axes in the slots X, Y and Z, and whether the channel owns an axis
 pub record SetupView : Type 0 where
   pub names : List (List ℕ)
   pub axis_named : List ℕ → Option ℕ
   pub offset : ℕ → ℕ → ℤ
+  pub tools : Option (List ToolEdge)
   pub slots : List (Option ℕ)
   pub owned : List Bool
-
--- the slot with this letter
-abbrev pub slot_named : List ℕ → Option ℕ
-slot_named name =
-    if bytes_eq name (codes "X") then Some 0
-    else if bytes_eq name (codes "Y") then Some 1
-    else if bytes_eq name (codes "Z") then Some 2
-    else None
 
 abbrev pub is_this : ℕ → Option ℕ → Bool
 is_this axis None = false
@@ -92,6 +88,43 @@ abbrev pub programmed_by : SetupView → Targets → List ℕ → Option ℕ →
 programmed_by equipment targets name (Some slot) value = slot_programmed equipment.slots targets slot value
 programmed_by equipment targets name None value = named_programmed equipment.slots targets (equipment.axis_named name) value
 
+-- ---- tools
+
+-- the edges of a channel's tools; none where it has no tools
+abbrev pub edges_of : SetupView → List ToolEdge
+edges_of equipment = unwrap_or equipment.tools []
+
+-- the name begins with this letter
+abbrev pub begins_with : ℕ → List ℕ → Bool
+begins_with letter [] = false
+begins_with letter (first ∷ rest) = first == letter
+
+-- the whole number that a value in millionths is; none where there is no value, or one that is below 0 or not whole
+unfoldable pub number_in : Option ℤ → Option ℕ
+number_in None = None
+number_in (Some (pos n)) = if n % 1000000 == 0 then Some (n / 1000000) else None
+number_in (Some (negsuc n)) = None
+
+-- with a choice more; alarm 34 where none is given
+abbrev pub choices_with_some : List ToolEdge → List Choice → Option Choice → Result (List Choice) ℕ
+choices_with_some edges choices None = Err NO_SUCH_TOOL
+choices_with_some edges choices (Some choice) = choices_with edges choices choice
+
+-- with the tool that a word T of this value chooses, and with the edge that a word D chooses
+abbrev pub tool_chosen : List ToolEdge → List Choice → Option ℤ → Result (List Choice) ℕ
+tool_chosen edges choices value = choices_with_some edges choices (option_map OfTool (number_in value))
+
+abbrev pub edge_chosen : List ToolEdge → List Choice → Option ℤ → Result (List Choice) ℕ
+edge_chosen edges choices value = choices_with_some edges choices (option_map OfEdge (number_in value))
+
+-- the choices with that of an auxiliary word of this name and value: T, which is 84, chooses a tool, D, which is 68, an edge, with digits before its value or without; other words choose nothing, and where the channel has no tools none does
+unfoldable pub chosen : Option (List ToolEdge) → List Choice → List ℕ → Option ℤ → Result (List Choice) ℕ
+chosen None choices name value = Ok choices
+chosen (Some edges) choices name value =
+    if begins_with 84 name then tool_chosen edges choices value
+    else if begins_with 68 name then edge_chosen edges choices value
+    else Ok choices
+
 -- ---- words of arcs
 
 -- the axis X, Y or Z of a word of the centre
@@ -120,19 +153,20 @@ moves targets arc = is_any targets.slots || (is_any targets.axes || (is_any arc.
 
 -- ---- words
 
--- how far the words of a block have come: the parameters, the values that are programmed, the words of an arc, and whether the program ends after the block
+-- how far the words of a block have come: the parameters, the values that are programmed, the words of an arc, the choices of tools and edges, those of the blocks before it too, and whether the program ends after the block
 pub record Progress : Type 0 where
   pub parameters : List ℤ
   pub targets : Targets
   pub arc : ArcWords
+  pub choices : List Choice
   pub ends : Bool
 
--- before the first word of a block: the parameters are as they are, and nothing is programmed
+-- before the first word of a block: the parameters and the choices are as they are, and nothing is programmed
 unfoldable pub nothing_programmed : Targets
 nothing_programmed = record { slots = replicate 3 None; axes = replicate AXIS_LIMIT None }
 
-abbrev pub first_progress : List ℤ → Progress
-first_progress parameters = record { parameters = parameters; targets = nothing_programmed; arc = no_arc; ends = false }
+abbrev pub first_progress : List ℤ → List Choice → Progress
+first_progress parameters choices = record { parameters = parameters; targets = nothing_programmed; arc = no_arc; choices = choices; ends = false }
 
 -- the index comes before the value
 abbrev pub given_at : List ℤ → Tree → Tree → Result (List ℤ) ℕ
@@ -149,6 +183,10 @@ with_targets p targets = targets >>= λ new. Ok (record p { targets = new })
 -- a word programs a centre or a radius alone
 abbrev pub with_arc_words : Progress → Result ArcWords ℕ → Result Progress ℕ
 with_arc_words p words = words >>= λ new. Ok (record p { arc = new })
+
+-- a word chooses a tool or an edge alone
+abbrev pub with_choices : Progress → Result (List Choice) ℕ → Result Progress ℕ
+with_choices p choices = choices >>= λ new. Ok (record p { choices = new })
 
 abbrev pub programmed_value : Measure → ℤ → Programmed
 programmed_value measure value = record { measure = measure; value = value }
@@ -181,7 +219,8 @@ word_done equipment p (G group code) = Ok p
 word_done equipment p (Axis name measure tree) =
     value_of (values_in p.parameters) tree >>= λ value. word_progress equipment p name (centre_named name) (programmed_value measure value)
 word_done equipment p (Radius tree) = value_of (values_in p.parameters) tree >>= λ value. with_arc_words p (with_radius p.arc value)
-word_done equipment p (Aux name index operand) = aux_read (values_in p.parameters) index operand >>= λ _. Ok p
+word_done equipment p (Aux name index operand) =
+    aux_read (values_in p.parameters) index operand >>= λ value. with_choices p (chosen equipment.tools p.choices name value)
 word_done equipment p End = Ok (record p { ends = true })
 
 -- one word after another; the first alarm counts
@@ -191,8 +230,17 @@ words_done equipment p (word ∷ words) = word_done equipment p word >>= λ q. w
 
 -- ---- answers
 
-abbrev pub progress_of : List ℤ → WordsDone → Progress
-progress_of parameters done = record { parameters = parameters; targets = done.targets; arc = done.arc; ends = done.ends }
+abbrev pub progress_of : List ℤ → List Choice → WordsDone → Progress
+progress_of parameters choices done = record { parameters = parameters; targets = done.targets; arc = done.arc; choices = choices; ends = done.ends }
+
+-- so far have the words come; what is kept of the choices is what is in use after them
+pub record IsToldBy (edges : List ToolEdge) (p : Progress) (parameters : List ℤ) (done : WordsDone) : Type 0 where
+  pub same : p ≡ progress_of parameters p.choices done
+  pub tool : done.tool ≡ in_use_after edges p.choices
+
+abbrev pub Tells : List ToolEdge → Result Progress ℕ → List ℤ → WordsDone → Type 0
+Tells edges (Ok p) parameters done = IsToldBy edges p parameters done
+Tells edges (Err code) parameters done = ⊥
 
 -- where no word was one of an axis or an arc, nothing is programmed
 pub record TellsOfMoves (done : WordsDone) : Type 0 where
@@ -200,8 +248,8 @@ pub record TellsOfMoves (done : WordsDone) : Type 0 where
   pub arc : done.moves ≡ false → done.arc ≡ no_arc
 
 -- a word has done this, or alarms
-abbrev pub ActsOn : Result Progress ℕ → Result (Option Change) ℕ → Progress → Type 0
-ActsOn done result new = MatchResult result (λ _. done ≡ Ok new) (λ code. done ≡ Err code)
+abbrev pub ActsOn : List ToolEdge → Result Progress ℕ → Result (Option Change) ℕ → List ℤ → WordsDone → Type 0
+ActsOn edges acted result parameters done = MatchResult result (λ _. Tells edges acted parameters done) (λ code. acted ≡ Err code)
 
 -- the words have done this, or alarm
 abbrev pub Acts : Result Progress ℕ → Result ⊤ ℕ → Progress → Type 0
@@ -233,6 +281,3 @@ IsUndone result old new = MatchResult result (λ change. (change.index ≤ LAST_
 -- the same, where a word may change none
 abbrev pub IsUndoneSome : Result (Option Change) ℕ → List ℤ → List ℤ → Type 0
 IsUndoneSome result old new = MatchResult result (λ o. MatchOption o (new ≡ old) (λ change. (change.index ≤ LAST_PARAMETER) × (parameters_before new change ≡ old))) (λ _. new ≡ old)
-
-abbrev pub IsRead : Result (Option ℤ) ℕ → Result ⊤ ℕ → Type 0
-IsRead read result = MatchResult result (λ _. IsOk read) (λ code. read ≡ Err code)

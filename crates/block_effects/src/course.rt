@@ -7,6 +7,7 @@ use nc_control_flow::Outcome;
 use out_of_memory::NoMemory;
 use sync_types::Item;
 use thiserror::Error;
+use tool_offsets::Tools;
 
 /// What becomes of control after a block.
 #[derive(Clone, Copy)]
@@ -41,7 +42,8 @@ pub enum BlockFault {
 
 /// What the blocks of a channel find in its job.
 pub trait Setup {
-    ghost use Rattle.std.specs.Prelude.{◌≡◌, ℕ, ℤ, List, Option};
+    ghost use Rattle.std.specs.Prelude.{◌≡◌, ℕ, ℤ, List, Option, MatchOption, None, Some};
+    ghost use Rattle.tool_offsets.specs.declared.tools.ToolEdge.{ToolEdge};
     ghost use Rattle.block_effects.specs.Effects.{number_of};
 
     /// The names of the programs, in the order of their numbers from 0 on.
@@ -52,6 +54,9 @@ pub trait Setup {
 
     /// The settable offset of a slot under a word of group 8, in micrometres.
     ghost offset: { Self → ℕ → ℕ → ℤ };
+
+    /// The edges of the tools of the channel, or none where it has no tools.
+    ghost tools: { Self → Option (List ToolEdge) };
 
     /// The number of the program of this name, the first where several have it, or `None` where there is none.
     fn number_of(&self, name: &NameText) -> Option<u16>
@@ -64,4 +69,8 @@ pub trait Setup {
     /// The settable offset of a slot, 0, 1 and 2 for X, Y and Z, under this word of group 8; 0 where none is set.
     fn offset(&self, word: u16, slot: u8) -> Um
         ensures { result ≡ offset self.now word slot };
+
+    /// The tools of the channel, or `None` where it has none: then T and D choose nothing.
+    fn tools(&self) -> Option<&Tools>
+        ensures { MatchOption result (tools self.now ≡ None) (λ found. tools self.now ≡ Some found.now) };
 }

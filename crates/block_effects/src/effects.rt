@@ -13,7 +13,8 @@ ghost use Rattle.nc_blocks.specs.Indices.{FitsValues, WordFits};
 ghost use Rattle.nc_blocks.specs.Statement.{statement_view, word_view};
 ghost use Rattle.block_effects.specs.Effects as model;
 ghost use Rattle.block_effects.specs.Courses.{answer_with, equipment_of, course_view, ActsAll, DoesAsDefined, ModalIsAfter, RunsAsDefined, RunsUnder, Turns, WordsRunUnder};
-ghost use Rattle.block_effects.specs.Words.{TellsOfMoves, progress_of, values_in};
+ghost use Rattle.block_effects.specs.Words.{TellsOfMoves, edges_of, progress_of, values_in};
+ghost use Rattle.tool_offsets.specs.Choices.{Choice, in_use_after};
 
 use crate::control::{begin_for, called, choice, conditional, continue_for, jumped, leap, repeat};
 use crate::course::{BlockFault, Course, Done, Setup};
@@ -34,6 +35,7 @@ use nc_control_flow::Outcome;
 use path_geometry::Motion;
 use std::alloc::Global;
 use sync_types::{Item, Part};
+use tool_offsets::Lengths;
 
 /// The course of a block of words.
 fn course_of<'a>(ends: bool) -> Course<'a>
@@ -120,6 +122,7 @@ fn move_axes<S: Setup>(
     axes: &ChannelAxes,
     modal: &Modal,
     frame: &Frame,
+    lengths: Lengths,
     groups: &[GWord],
     targets: &Targets,
     arc: &ArcWords,
@@ -130,16 +133,17 @@ fn move_axes<S: Setup>(
     ensures made { (blocks : List (List GWord)) (chain : List Map)
         → IsAfter blocks modal.now → IsComposed chain frame.now
         → given_motion motion.new result ≡ model.moved_or_still axes.now.slots axes.now.owned
-        (model.held_after (S.offset setup.now) blocks chain) (stands at.old) groups.now targets.now arc.now }
+        (model.held_after (S.offset setup.now) blocks chain lengths) (stands at.old) groups.now targets.now arc.now }
     ensures stand { IfOk result (λ _. StandsAtEndOf motion.new at.old at.new) }
     ensures unmoved { OnErr result (at.new ≡ at.old) }
 {
-    let conditions = conditions(setup, modal, frame);
+    let conditions = conditions(setup, modal, frame, lengths);
     move_programmed(axes, &conditions, groups, targets, arc, at, motion)
 }
 
 /// Does what these words of a block say, from left to right, and then moves the axes as all its words say. After an alarm
-/// nothing of it stands: on the way back each change of a parameter is taken back.
+/// nothing of it stands: on the way back each change of a parameter is taken back. The lengths are those of the tool that is in
+/// use after all words.
 fn run_from<S: Setup>(
     setup: &S,
     axes: &ChannelAxes,
@@ -153,13 +157,14 @@ fn run_from<S: Setup>(
 ) -> Result<(), u16>
     requires fits { All WordFits (map word_view words.now) }
     requires told { TellsOfMoves done.old }
-    ensures acts { (blocks : List (List GWord)) (chain : List Map)
+    ensures acts { (blocks : List (List GWord)) (chain : List Map) (choices : List Choice)
         → IsAfter blocks modal.now → IsComposed chain frame.now
-        → ActsAll (model.words_then_motion (equipment_of (S.names setup.now) (S.axis_named setup.now)
-        (S.offset setup.now) axes.now)
+        → let equipment = equipment_of (S.names setup.now) (S.axis_named setup.now) (S.offset setup.now)
+        (S.tools setup.now) axes.now in
+        done.old.tool ≡ in_use_after (edges_of equipment) choices
+        → ActsAll (edges_of equipment) (model.words_then_motion equipment
         (model.held_after (S.offset setup.now) blocks chain) (stands at.old) groups.now
-        (progress_of parameters.old done.old) (map word_view words.now)) result
-        (progress_of parameters.new done.new) done.new.motion }
+        (progress_of parameters.old choices done.old) (map word_view words.now)) result parameters.new done.new }
     ensures stand { IfOk result (λ _. StandsAtEndOf done.new.motion at.old at.new) }
     ensures parameters { OnErr result (parameters.new ≡ parameters.old) }
     ensures at { OnErr result (at.new ≡ at.old) }
@@ -167,9 +172,12 @@ fn run_from<S: Setup>(
     let [word, others @ ..] = words else {
         done.motion = None;
         if done.moves {
+            let lengths = done.tool.lengths;
             let (targets, arc) = (&done.targets, &done.arc);
             let motion = &mut done.motion;
-            move_axes(setup, axes, modal, frame, groups, targets, arc, at, motion)?;
+            move_axes(
+                setup, axes, modal, frame, lengths, groups, targets, arc, at, motion,
+            )?;
         }
         return Ok(());
     };
@@ -223,13 +231,13 @@ fn run_words<'a, S: Setup>(
     requires fits { All WordFits (map word_view words.now) }
     requires empty { item.old ≡ None }
     ensures runs { WordsRunUnder modal.now groups.now
-        (equipment_of (S.names setup.now) (S.axis_named setup.now) (S.offset setup.now) axes.now) situation.old line
-        (map word_view words.now) (answer_with item.new result) situation.new }
+        (equipment_of (S.names setup.now) (S.axis_named setup.now) (S.offset setup.now) (S.tools setup.now) axes.now)
+        situation.old line (map word_view words.now) (answer_with item.new result) situation.new }
     ensures modal { situation.new.modal ≡ situation.old.modal }
     ensures stand { IfOk result (λ _. StandsAtEnd item.new situation.old.at situation.new.at) }
     ensures unchanged { OnErr result (situation.new ≡ situation.old) }
 {
-    let mut done = WordsDone::nothing();
+    let mut done = WordsDone::nothing(situation.tool);
     run_from(
         setup,
         axes,
@@ -241,6 +249,7 @@ fn run_words<'a, S: Setup>(
         &mut situation.at,
         &mut done,
     )?;
+    situation.tool = done.tool;
     put_motion(item, line, &mut done.motion);
     Ok(course_of(done.ends))
 }
@@ -294,8 +303,9 @@ fn run_stmt<'a, S: Setup>(
     requires fits { FitsValues (values_in situation.old.parameters) (statement_view stmt.now) }
     requires empty { item.old ≡ None }
     ensures runs { RunsUnder modal.now groups.now
-        (equipment_of (S.names setup.now) (S.axis_named setup.now) (S.offset setup.now) axes.now) situation.old line
-        (statement_view opener.now) (statement_view stmt.now) (answer_with item.new result) situation.new }
+        (equipment_of (S.names setup.now) (S.axis_named setup.now) (S.offset setup.now) (S.tools setup.now) axes.now)
+        situation.old line (statement_view opener.now) (statement_view stmt.now) (answer_with item.new result)
+        situation.new }
     ensures modal { situation.new.modal ≡ situation.old.modal }
     ensures stand { IfOk result (λ _. StandsAtEnd item.new situation.old.at situation.new.at) }
     ensures unchanged { OnErr result (situation.new ≡ situation.old) }
@@ -354,7 +364,7 @@ fn run<'a, S: Setup>(
     requires fits { FitsValues (values_in situation.old.parameters) (statement_view stmt.now) }
     requires empty { item.old ≡ None }
     ensures runs { RunsAsDefined (equipment_of (S.names setup.now) (S.axis_named setup.now) (S.offset setup.now)
-        axes.now) situation.old line (statement_view opener.now) (statement_view stmt.now)
+        (S.tools setup.now) axes.now) situation.old line (statement_view opener.now) (statement_view stmt.now)
         (answer_with item.new result) situation.new }
     ensures modal { IfOk result (λ _. ModalIsAfter groups.now situation.old situation.new) }
     ensures stand { IfOk result (λ _. StandsAtEnd item.new situation.old.at situation.new.at) }
@@ -389,7 +399,7 @@ pub fn execute_to<'a, S: Setup>(
     requires fits { FitsValues (values_in situation.old.parameters) (statement_view stmt.now) }
     requires empty { item.old ≡ None }
     ensures leaves { DoesAsDefined (equipment_of (S.names setup.now) (S.axis_named setup.now) (S.offset setup.now)
-        axes.now) situation.old line (statement_view opener.now) (statement_view stmt.now)
+        (S.tools setup.now) axes.now) situation.old line (statement_view opener.now) (statement_view stmt.now)
         (answer_with item.new result) situation.new }
     ensures modal { IfOk result (λ _. ModalIsAfter (model.group_words (statement_view stmt.now))
         situation.old situation.new) }
@@ -419,7 +429,8 @@ pub fn execute_to<'a, S: Setup>(
 ///
 /// The alarms of a block of words, in this order: 10 where two words of one group stand in it; then for each word from
 /// the left 1 to 4 of its values, 14 where a slot has no axis or the job has no axis of the name, 16 where an axis of a
-/// slot is named itself, 17 where an axis, a word of the centre or the radius is programmed twice. Then comes 18 where
+/// slot is named itself, 17 where an axis, a word of the centre or the radius is programmed twice, and 34 where T or D
+/// chooses what the tools of the channel do not have. Then comes 18 where
 /// no arc is made, under G0, G1 or G33, and a radius stands there, or under G0 or G1 a word of the centre, also in a
 /// block that moves nothing; then under G2 and G3 the alarms of `arc_motion`, else those of `straight_motion`. A block with G4,
 /// G25 or G26 moves nothing and has no further alarm.
@@ -443,7 +454,8 @@ pub fn execute<'a, S: Setup>(
     requires opener { FitsValues (values_in situation.old.parameters) (statement_view opener.now) }
     requires fits { FitsValues (values_in situation.old.parameters) (statement_view stmt.now) }
     ensures leaves { DoesAsDefined (equipment_of (S.names setup.now) (S.axis_named setup.now) (S.offset setup.now)
-        axes.now) situation.old line (statement_view opener.now) (statement_view stmt.now) result situation.new }
+        (S.tools setup.now) axes.now) situation.old line (statement_view opener.now) (statement_view stmt.now) result
+        situation.new }
     ensures modal { IfOk result (λ _. ModalIsAfter (model.group_words (statement_view stmt.now))
         situation.old situation.new) }
     ensures stand { IfOk result (λ done. StandsAtEnd done.item situation.old.at situation.new.at) }

@@ -14,8 +14,10 @@ use crate::course::Setup;
 use block_motions::Conditions;
 use frames::{Frame, Plane};
 use g_groups::{AREA_GROUP, DWELL_GROUP, GWord, Modal, OFFSET_GROUP, PLANE_GROUP};
+use micro_units::Um;
 use nc_blocks::{Stmt, Word};
 use std::alloc::{AllocError, Global};
+use tool_offsets::Lengths;
 
 /// The word of a group, if a word is one.
 fn group_word(word: &Word) -> Option<GWord>
@@ -75,11 +77,16 @@ pub(crate) fn plane_in(modal: &Modal) -> Plane
     }
 }
 
-/// What holds in a block under these words and this frame.
+/// What holds in a block under these words and this frame, with a tool of these lengths.
 #[tactic(auto, unfolding(g_groups::specs::Groups::holding_of))]
-pub(crate) fn conditions<S: Setup>(setup: &S, modal: &Modal, frame: &Frame) -> Conditions
+pub(crate) fn conditions<S: Setup>(
+    setup: &S,
+    modal: &Modal,
+    frame: &Frame,
+    lengths: Lengths,
+) -> Conditions
     ensures { (blocks : List (List GWord)) (chain : List Map) → IsAfter blocks modal.now → IsComposed chain frame.now
-        → AreInForce (model.held_after (S.offset setup.now) blocks chain) result }
+        → AreInForce (model.held_after (S.offset setup.now) blocks chain lengths) result }
 {
     let word = modal.word(OFFSET_GROUP);
     Conditions {
@@ -90,5 +97,6 @@ pub(crate) fn conditions<S: Setup>(setup: &S, modal: &Modal, frame: &Frame) -> C
             setup.offset(word, 1),
             setup.offset(word, 2),
         ],
+        lengths: [lengths.x, Um { micrometres: 0 }, lengths.z],
     }
 }

@@ -4,6 +4,7 @@
 //! `execute` does what a block says, or answers its first alarm.
 #![tactic(auto)]
 
+mod choices;
 mod control;
 mod course;
 mod effects;

@@ -1,21 +1,25 @@
 //! The words of a block, one by one.
 
 ghost use Rattle.std.specs.Prelude.{◌≡◌, ◌≤◌, ◌<◌, ℕ, ℤ, List, IfSome, MatchResult, false, length, Ok, Err};
+ghost use Rattle.nc_blocks.specs.AxisNames.{slot_named};
 ghost use Rattle.nc_blocks.specs.Indices.{WordFits, OptionFits, OperandFits};
 ghost use Rattle.nc_blocks.specs.Statement.{word_view, operand_view, tree_option};
 ghost use Rattle.block_effects.specs.Words as model;
-ghost use Rattle.block_effects.specs.Words.{progress_of, Acts, ActsOn, Aims, Curves, IsPut, IsRead, IsUndoneSome, TellsOfMoves};
+ghost use Rattle.block_effects.specs.Words.{edges_of, progress_of, Acts, ActsOn, Aims, Curves, IsPut, IsUndoneSome, TellsOfMoves};
+ghost use Rattle.tool_offsets.specs.Choices.{Choice, in_use_after};
 ghost use Rattle.block_effects.specs.Courses.{equipment_of};
 
+use crate::choices::tool_after;
 use crate::course::Setup;
 use crate::parameters::{Change, Parameters};
 use axis_sets::{AXIS_LIMIT, AxisId};
 use block_motions::{ArcWords, ChannelAxes, Programmed, Targets};
 use fault_codes::alarms::{ADDRESS_TWICE, GEOMETRY_AXIS_BY_NAME, NO_SUCH_AXIS};
 use micro_units::Num;
-use nc_blocks::{Operand, Word};
+use nc_blocks::{Operand, Word, slot_named};
 use nc_expressions::{Expr, eval};
 use path_geometry::Motion;
+use tool_offsets::ToolInUse;
 
 /// What the words of a block have done so far, besides what they gave parameters.
 #[derive(Drop)]
@@ -24,28 +28,14 @@ pub(crate) struct WordsDone {
     pub(crate) targets: Targets,
     /// The words of an arc.
     pub(crate) arc: ArcWords,
+    /// The tool in use.
+    pub(crate) tool: ToolInUse,
     /// Whether a word was one of an axis or an arc: where this is false, nothing is programmed.
     pub(crate) moves: bool,
     /// Whether the program ends after the block.
     pub(crate) ends: bool,
     /// The motion of the block, once its last word has acted.
     pub(crate) motion: Option<Motion>,
-}
-
-/// The slot with this letter, 0, 1 and 2 for X, Y and Z.
-fn slot_named(name: &[u8]) -> Option<u8>
-    ensures slot { result ≡ model.slot_named name.now }
-    ensures below { IfSome result (λ slot. slot < 3) }
-{
-    if name == b"X".as_slice() {
-        Some(0)
-    } else if name == b"Y".as_slice() {
-        Some(1)
-    } else if name == b"Z".as_slice() {
-        Some(2)
-    } else {
-        None
-    }
 }
 
 /// The axis of this word of the centre, 0, 1 and 2 for X, Y and Z.
@@ -159,7 +149,7 @@ fn program_axis<S: Setup>(
     value: Programmed,
 ) -> Result<(), u16>
     ensures { Aims (model.programmed_by (equipment_of (S.names setup.now) (S.axis_named setup.now) (S.offset setup.now)
-        axes.now) targets.old name.now (model.slot_named name.now) value) result targets.new }
+        (S.tools setup.now) axes.now) targets.old name.now (slot_named name.now) value) result targets.new }
 {
     match slot_named(name) {
         Some(slot) => program_slot(&axes.slots, targets, slot, value),
@@ -190,25 +180,29 @@ fn operand_read(parameters: &Parameters, operand: &Operand) -> Result<Option<Num
     }
 }
 
-/// The values of a word that moves nothing, whose alarms count.
-fn read(parameters: &Parameters, index: &Option<Expr>, operand: &Operand) -> Result<(), u16>
+/// The value of an auxiliary word, if it has one; the value in its brackets is found before it.
+fn aux_read(
+    parameters: &Parameters,
+    index: &Option<Expr>,
+    operand: &Operand,
+) -> Result<Option<Num>, u16>
     requires index { OptionFits (tree_option index.now) }
     requires operand { OperandFits (operand_view operand.now) }
-    ensures { IsRead (model.aux_read (model.values_in parameters.now) (tree_option index.now)
-        (operand_view operand.now)) result }
+    ensures { result ≡ model.aux_read (model.values_in parameters.now) (tree_option index.now)
+        (operand_view operand.now) }
 {
     let _index = option_read(parameters, index)?;
-    let _operand = operand_read(parameters, operand)?;
-    Ok(())
+    operand_read(parameters, operand)
 }
 
 impl WordsDone {
-    /// Before the first word of a block.
+    /// Before the first word of a block, with this tool in use.
     #[tactic(auto, unfolding(crate::specs::Words::nothing_programmed, crate::specs::Words::no_arc))]
-    pub(crate) fn nothing() -> WordsDone
+    pub(crate) fn nothing(tool: ToolInUse) -> WordsDone
         ensures targets { result.targets ≡ model.nothing_programmed }
         ensures arc { result.arc ≡ model.no_arc }
         ensures ends { result.ends ≡ false }
+        ensures tool { result.tool ≡ tool }
         ensures told { TellsOfMoves result }
     {
         WordsDone {
@@ -220,6 +214,7 @@ impl WordsDone {
                 centre: [None; 3],
                 radius: None,
             },
+            tool,
             moves: false,
             ends: false,
             motion: None,
@@ -235,11 +230,12 @@ impl WordsDone {
         value: Programmed,
     ) -> Result<(), u16>
         ensures moves { self.new.moves ≡ self.old.moves }
-        ensures acts { (parameters : List ℤ)
+        ensures tool { self.new.tool ≡ self.old.tool }
+        ensures acts { (parameters : List ℤ) (choices : List Choice)
             → Acts (model.word_progress (equipment_of (S.names setup.now) (S.axis_named setup.now)
-            (S.offset setup.now) axes.now)
-            (progress_of parameters self.old) name.now (model.centre_named name.now) value) result
-            (progress_of parameters self.new) }
+            (S.offset setup.now) (S.tools setup.now) axes.now)
+            (progress_of parameters choices self.old) name.now (model.centre_named name.now) value) result
+            (progress_of parameters choices self.new) }
     {
         match centre_named(name) {
             Some(axis) => program_centre(&mut self.arc, axis, value),
@@ -259,9 +255,11 @@ impl WordsDone {
         requires fits { WordFits (word_view word.now) }
         requires told { TellsOfMoves self.old }
         ensures told { TellsOfMoves self.new }
-        ensures acts { ActsOn (model.word_done (equipment_of (S.names setup.now) (S.axis_named setup.now)
-            (S.offset setup.now) axes.now) (progress_of parameters.old self.old) (word_view word.now)) result
-            (progress_of parameters.new self.new) }
+        ensures acts { (choices : List Choice) → let equipment = equipment_of (S.names setup.now)
+            (S.axis_named setup.now) (S.offset setup.now) (S.tools setup.now) axes.now in
+            self.old.tool ≡ in_use_after (edges_of equipment) choices
+            → ActsOn (edges_of equipment) (model.word_done equipment (progress_of parameters.old choices self.old)
+            (word_view word.now)) result parameters.new self.new }
         ensures undone { IsUndoneSome result parameters.old parameters.new }
     {
         match word {
@@ -276,8 +274,9 @@ impl WordsDone {
                 self.program(setup, axes, name.as_slice(), value)?;
                 Ok(None)
             }
-            Word::Aux(_, index, operand) => {
-                read(parameters, index, operand)?;
+            Word::Aux(name, index, operand) => {
+                let value = aux_read(parameters, index, operand)?;
+                self.tool = tool_after(setup, self.tool, name.as_slice(), value)?;
                 Ok(None)
             }
             Word::End => {

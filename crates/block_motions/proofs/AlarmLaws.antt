@@ -1,5 +1,5 @@
 -- The alarms of motions are in the table of alarms.
-use Rattle.std.proofs.Common.{◌≡◌, ℕ, ℤ, pos, Bool, true, false, not, cond, List, Option, None, Some, Result, Ok, Err, subst, refl}
+use Rattle.std.proofs.Common.{◌≡◌, ℕ, ℤ, pos, Bool, true, false, not, ◌&&◌, cond, List, Option, None, Some, Result, Ok, Err, subst, refl}
 use Rattle.std.specs.Prelude.{int_lt, unsigned_abs}
 use Rattle.fault_codes.specs.Codes.{IsAlarmCode, alarm_codes}
 use Rattle.frames.specs.declared.Plane.{Plane}
@@ -10,7 +10,7 @@ use Rattle.path_geometry.specs.declared.motion.Motion.{Motion}
 use Rattle.path_geometry.specs.declared.motion.Motion.TheVariants as Kind
 use Rattle.block_motions.specs.declared.goals.Goal.{Goal}
 use Rattle.block_motions.specs.declared.goals.Targets.{Targets}
-use Rattle.block_motions.specs.Goals.{ConditionsView, have_axes, goals_of}
+use Rattle.block_motions.specs.Goals.{ConditionsView, have_axes, goals_of, is_off_plane, is_programmed}
 use Rattle.block_motions.specs.Motions.{are_in_reach, are_own, ends_from, is_rapid, motion_if_any, straight_motion_to, straight_motion}
 use Rattle.block_motions.specs.Arcs.{place_from, goal_on, arc_about_places, arc_by_words, radius_of, arc_of_size, arc_by_size, arc_given, can_run, some_motion, arc_to, sides_in, have_one_factor, is_backward, in_turn, arc_goals, arc_between, arc_through, moves_arc, is_given, is_in_plane, plane_of, arc_motion}
 use Rattle.block_motions.specs.Sides.{SideView}
@@ -52,6 +52,10 @@ listed_23 : IsAlarmCode 23
 unfolding IsAlarmCode alarm_codes
 listed_23 = refl
 
+listed_35 : IsAlarmCode 35
+unfolding IsAlarmCode alarm_codes
+listed_35 = refl
+
 -- ---- the alarm of an arc, if it has one
 
 record IsListed {A : Type 0} (answer : Result A ℕ) : Type 0 where
@@ -76,6 +80,10 @@ some first listed = record { listed = λ code is. let same : first ≡ code = cc
 either : {A : Type 0} (b : Bool) (first : ℕ) (answer : Result A ℕ) → IsAlarmCode first → IsListed answer → IsListed (cond (not b) (Err first) answer)
 either true first answer listed rest = rest
 either false first answer listed rest = this_alarm first listed
+
+unless_this : {A : Type 0} (b : Bool) (first : ℕ) (answer : Result A ℕ) → IsAlarmCode first → IsListed answer → IsListed (cond b (Err first) answer)
+unless_this true first answer listed rest = this_alarm first listed
+unless_this false first answer listed rest = rest
 
 first_of : (b : Bool) (first : ℕ) (later : Option ℕ) → IsAlarmCode first → IsNoneOr later → IsNoneOr (cond b (Some first) later)
 first_of true first later listed rest = some first listed
@@ -143,7 +151,8 @@ module _ (owned : List Bool) (h : ConditionsView) (at : ℕ → ℤ) (words : Ar
   between_listed : (slots : List (Option ℕ)) (targets : Targets) (plane : Plane) (sides : Option (SideView × SideView)) → IsListed (arc_between slots owned h at targets words plane sides)
   between_listed slots targets plane None = this_alarm 14 listed_14
   between_listed slots targets plane (Some sides) =
-      either (have_one_factor h plane) 23 _ listed_23 (to_listed (in_turn (is_backward h plane) sides) (arc_goals slots h targets sides))
+      unless_this (is_off_plane h) 35 _ listed_35
+      (either (have_one_factor h plane) 23 _ listed_23 (to_listed (in_turn (is_backward h plane) sides) (arc_goals slots h targets sides)))
 
   through_listed : (slots : List (Option ℕ)) (targets : Targets) (plane : Plane) → IsListed (arc_through slots owned h at targets words plane)
   unfolding arc_through
@@ -171,7 +180,9 @@ straight_to_listed owned at rapid goals =
 
 straight_listed : (slots : List (Option ℕ)) (owned : List Bool) (h : ConditionsView) (at : ℕ → ℤ) (targets : Targets) → IsListed (straight_motion slots owned h at targets)
 unfolding straight_motion
-straight_listed slots owned h at targets = either (have_axes slots h targets.slots) 14 _ listed_14 (straight_to_listed owned at (is_rapid h) (goals_of slots h targets))
+straight_listed slots owned h at targets =
+    either (have_axes slots h targets.slots) 14 _ listed_14
+    (unless_this (is_programmed targets && is_off_plane h) 35 _ listed_35 (straight_to_listed owned at (is_rapid h) (goals_of slots h targets)))
 
 pub straight_alarm_listed : (slots : List (Option ℕ)) (owned : List Bool) (h : ConditionsView) (at : ℕ → ℤ) (targets : Targets) (code : ℕ)
     → straight_motion slots owned h at targets ≡ Err code → IsAlarmCode code

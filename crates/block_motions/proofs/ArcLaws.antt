@@ -8,7 +8,7 @@ use Rattle.axis_sets.specs.Sets.{has}
 use Rattle.block_motions.specs.declared.goals.Goal.{Goal}
 use Rattle.block_motions.specs.declared.goals.Goal.TheVariants.{To, By, TooFar}
 use Rattle.block_motions.specs.declared.goals.Targets.{Targets}
-use Rattle.block_motions.specs.Goals.{ConditionsView, chain_in, change_by, have_axes}
+use Rattle.block_motions.specs.Goals.{ConditionsView, chain_in, change_by, have_axes, is_off_plane}
 use Rattle.block_motions.specs.Motions.{are_in_reach, are_own, goal_at, end_for, ends_from, IsMotionOf}
 use Rattle.block_motions.proofs.MotionLaws.{end_own}
 use Rattle.block_motions.proofs.Ends.{ends_all, ends_once}
@@ -26,7 +26,7 @@ use Rattle.block_motions.specs.Sides.{SideView}
 use Rattle.block_motions.specs.declared.words.ArcWords.{ArcWords}
 use Rattle.block_motions.proofs.ArcAxes.{about_axes, radius_axes}
 use Rattle.block_motions.proofs.Runs.{in_range, have_plane}
-use Rattle.fault_codes.specs.declared.alarms.TheConstants.{ARC_SCALE, ARC_WORDS, AXIS_NOT_OWNED, CENTRE_OUTSIDE_PLANE, NO_SUCH_AXIS, OUT_OF_RANGE}
+use Rattle.fault_codes.specs.declared.alarms.TheConstants.{ARC_SCALE, ARC_WORDS, AXIS_NOT_OWNED, CENTRE_OUTSIDE_PLANE, NO_SUCH_AXIS, OUT_OF_RANGE, TOOL_PLANE}
 
 -- ---- the centre and the size are in range
 
@@ -133,12 +133,14 @@ module _ (owned : List Bool) (at : ℕ → ℤ) (words : ArcWords) (motion : Mot
     between_is : (slots : List (Option ℕ)) (targets : Targets) (plane : Plane) (sides : Option (SideView × SideView))
         → arc_between slots owned h at targets words plane sides ≡ Ok (Some motion) → IsSoundMotionOf owned at motion
     between_is slots targets plane None is = absurd cc
-    between_is slots targets plane (Some sides) is = by_factor (have_one_factor h plane) is
+    between_is slots targets plane (Some sides) is = by_tests (is_off_plane h) (have_one_factor h plane) is
       where
-        by_factor : (b : Bool) → cond {A = Result (Option Motion) ℕ} (not b) (Err ARC_SCALE) (arc_to owned h at words (in_turn (is_backward h plane) sides) (arc_goals slots h targets sides)) ≡ Ok (Some motion)
+        by_tests : (off one : Bool)
+            → cond {A = Result (Option Motion) ℕ} off (Err TOOL_PLANE) (cond (not one) (Err ARC_SCALE) (arc_to owned h at words (in_turn (is_backward h plane) sides) (arc_goals slots h targets sides))) ≡ Ok (Some motion)
             → IsSoundMotionOf owned at motion
-        by_factor false is = absurd cc
-        by_factor true is = to_is (in_turn (is_backward h plane) sides) (arc_goals slots h targets sides) is
+        by_tests true one is = absurd cc
+        by_tests false false is = absurd cc
+        by_tests false true is = to_is (in_turn (is_backward h plane) sides) (arc_goals slots h targets sides) is
 
     through_is : (slots : List (Option ℕ)) (targets : Targets) (plane : Plane) → arc_through slots owned h at targets words plane ≡ Ok (Some motion) → IsSoundMotionOf owned at motion
     unfolding arc_through

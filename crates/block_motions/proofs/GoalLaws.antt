@@ -1,5 +1,5 @@
 -- The goals of a block that are positions are in range.
-use Rattle.std.proofs.Common.{◌≡◌, ℕ, zero, suc, ℤ, Bool, true, false, cond, List, [], ◌∷◌, map, get_or, set, Option, None, Some, option_map, refl}
+use Rattle.std.proofs.Common.{◌≡◌, ℕ, zero, suc, ℤ, ◌+ℤ◌, Bool, true, false, cond, List, [], ◌∷◌, map, get_or, set, Option, None, Some, option_map, refl}
 use Rattle.std.specs.Prelude.{⊤}
 use Rattle.std.proofs.lemmas.Bool.{leb-true}
 use Rattle.frames.specs.Images.{image_of}
@@ -10,7 +10,7 @@ use Rattle.block_motions.specs.declared.goals.Goal.{Goal}
 use Rattle.block_motions.specs.declared.goals.Goal.TheVariants.{To, By, TooFar}
 use Rattle.block_motions.specs.declared.goals.Programmed.{Programmed}
 use Rattle.block_motions.specs.declared.goals.Targets.{Targets}
-use Rattle.block_motions.specs.Goals.{ConditionsView, position_at, change_by, is_change, chain_in, twice_of, place_of, goal_through, goal_by_name, axis_in, value_at, put, with_goal, goals_of}
+use Rattle.block_motions.specs.Goals.{ConditionsView, position_at, change_by, is_change, chain_in, lengthened, slot_of, twice_of, place_of, goal_through, goal_by_name, axis_in, value_at, put, with_goal, goals_of}
 
 abbrev pub IsFit : Option Goal → Type 0
 IsFit None = ⊤
@@ -32,6 +32,15 @@ change_fit change = by_test _
     by_test true = tt
     by_test false = tt
 
+lengthened_fit : (length : ℤ) (goal : Goal) → IsFit (Some (lengthened length goal))
+lengthened_fit length (To at) = position_fit (at +ℤ length)
+lengthened_fit length (By change) = tt
+lengthened_fit length TooFar = tt
+
+through_place_fit : (b : Bool) (change length : ℤ) (place : Goal) → IsFit (Some (cond b (change_by change) (lengthened length place)))
+through_place_fit true change length place = change_fit change
+through_place_fit false change length place = lengthened_fit length place
+
 either_fit : (b : Bool) (change at : ℤ) → IsFit (Some (cond b (change_by change) (position_at at)))
 either_fit true change at = change_fit change
 either_fit false change at = position_fit at
@@ -41,7 +50,8 @@ AllFit goals = (axis : ℕ) → IsFit (get_or goals axis None)
 
 module _ (h : ConditionsView) where
   through_fit : (axis : ℕ) (p : Programmed) → IsFit (Some (goal_through h axis p))
-  through_fit axis p = either_fit (is_change h p.measure) (change_of (image_of (chain_in h) axis) (twice_of h axis p)) (place_of h axis (twice_of h axis p))
+  through_fit axis p =
+      through_place_fit (is_change h p.measure) (change_of (image_of (chain_in h) axis) (twice_of h axis p)) (h.length (slot_of h axis)) (position_at (place_of h axis (twice_of h axis p)))
 
   named_fit : (value : Option Programmed) → IsFit (option_map (goal_by_name h) value)
   named_fit None = tt

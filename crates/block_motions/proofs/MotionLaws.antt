@@ -1,6 +1,6 @@
 -- The motion of a block is one of axes that the channel owns, from where they stand.
 use Rattle.axis_sets.specs.declared.limits.TheConstants.{AXIS_LIMIT}
-use Rattle.std.proofs.Common.{◌≡◌, ◌≢◌, ◌⊎◌, ℕ, suc, ℤ, ◌≤◌, ◌<◌, ◌==◌, ◌+ℤ◌, not, Bool, true, false, cond, List, [], ◌∷◌, length, find, get_or, Option, None, Some, option_map, Result, Ok, Err, All, AllPairs, inl, inr, refl, sym, ap, subst, arith}
+use Rattle.std.proofs.Common.{◌≡◌, ◌≢◌, ◌⊎◌, ℕ, suc, ℤ, ◌≤◌, ◌<◌, ◌==◌, ◌+ℤ◌, ◌&&◌, not, Bool, true, false, cond, List, [], ◌∷◌, length, find, get_or, Option, None, Some, option_map, Result, Ok, Err, All, AllPairs, inl, inr, refl, sym, ap, subst, arith}
 use Rattle.std.proofs.Math.ListN.{get_or-eq_default}
 use Rattle.std.proofs.lemmas.Bool.{leb-true, eq-eqb, ne_eqb}
 use Rattle.std.proofs.lemmas.List.Elements.{All-nil, All-cons, All-weaker}
@@ -12,13 +12,13 @@ use Rattle.axis_sets.specs.Sets.{has}
 use Rattle.block_motions.specs.declared.goals.Goal.{Goal}
 use Rattle.block_motions.specs.declared.goals.Goal.TheVariants.{To, By, TooFar}
 use Rattle.block_motions.specs.declared.goals.Targets.{Targets}
-use Rattle.block_motions.specs.Goals.{ConditionsView, have_axes, goals_of}
+use Rattle.block_motions.specs.Goals.{ConditionsView, have_axes, goals_of, is_off_plane, is_programmed}
 use Rattle.path_geometry.specs.Motions.{axis_end}
 use Rattle.block_motions.specs.Motions.{end_from, is_in_reach, are_in_reach, is_own, are_own, goal_at, end_for, ends_from, is_rapid, motion_between, motion_if_any, straight_motion_to, straight_motion, IsMotionOf}
 use Rattle.block_motions.proofs.Ends.{le_or_lt, ends_all, Differ, ends_once}
 use Rattle.block_motions.proofs.GoalLaws.{IsFit, AllFit, goals_fit}
 use Rattle.block_motions.proofs.Reaches.{reach_at, own_at}
-use Rattle.fault_codes.specs.declared.alarms.TheConstants.{AXIS_NOT_OWNED, NO_SUCH_AXIS, OUT_OF_RANGE}
+use Rattle.fault_codes.specs.declared.alarms.TheConstants.{AXIS_NOT_OWNED, NO_SUCH_AXIS, OUT_OF_RANGE, TOOL_PLANE}
 
 -- ---- the motion of a block
 
@@ -79,11 +79,14 @@ module _ (owned : List Bool) (at : ℕ → ℤ) where
 
   pub straight_is : (slots : List (Option ℕ)) (h : ConditionsView) (targets : Targets) (motion : Motion) → straight_motion slots owned h at targets ≡ Ok (Some motion) → IsMotionOf owned at motion
   unfolding straight_motion
-  straight_is slots h targets motion is = by_axes (have_axes slots h targets.slots) is
+  straight_is slots h targets motion is = by_tests (have_axes slots h targets.slots) (is_programmed targets && is_off_plane h) is
     where
-      by_axes : (b : Bool) → cond {A = Result (Option Motion) ℕ} (not b) (Err NO_SUCH_AXIS) (straight_motion_to owned at (is_rapid h) (goals_of slots h targets)) ≡ Ok (Some motion) → IsMotionOf owned at motion
-      by_axes false is = absurd cc
-      by_axes true is = straight_to_is (is_rapid h) (goals_of slots h targets) motion (goals_fit h slots targets) is
+      by_tests : (have off : Bool)
+          → cond {A = Result (Option Motion) ℕ} (not have) (Err NO_SUCH_AXIS) (cond off (Err TOOL_PLANE) (straight_motion_to owned at (is_rapid h) (goals_of slots h targets))) ≡ Ok (Some motion)
+          → IsMotionOf owned at motion
+      by_tests false off is = absurd cc
+      by_tests true true is = absurd cc
+      by_tests true false is = straight_to_is (is_rapid h) (goals_of slots h targets) motion (goals_fit h slots targets) is
 
 -- ---- for what stands on motions
 

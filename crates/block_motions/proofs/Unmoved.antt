@@ -3,8 +3,7 @@ use Rattle.axis_sets.specs.declared.limits.TheConstants.{AXIS_LIMIT}
 use Rattle.std.proofs.Common.{◌≡◌, ◌+◌, ℕ, zero, suc, ℤ, Bool, true, false, List, [], ◌∷◌, map, get_or, Option, None, Some, option_map, Ok, refl, ap}
 use Rattle.std.specs.List.{filter_map, range_with_len}
 use Rattle.axis_sets.specs.Sets.{has}
-use Rattle.block_motions.specs.Arcs.{is_any}
-use Rattle.block_motions.specs.Goals.{ConditionsView, goal_by_name, have_axes, goals_of}
+use Rattle.block_motions.specs.Goals.{ConditionsView, goal_by_name, have_axes, goals_of, is_any}
 use Rattle.block_motions.specs.Motions.{goal_at, is_in_reach, are_in_reach, is_own, are_own, end_from, end_for, ends_from, straight_motion_to, straight_motion, is_rapid}
 use Rattle.block_motions.specs.declared.goals.Goal.{Goal}
 use Rattle.block_motions.specs.declared.goals.Programmed.{Programmed}
@@ -58,4 +57,4 @@ module _ (slots : List (Option ℕ)) (h : ConditionsView) (targets : Targets) (n
 
   pub unmoved : (owned : List Bool) (at : ℕ → ℤ) → straight_motion slots owned h at targets ≡ Ok None
   unfolding straight_motion
-  unmoved owned at = rw have_all (unmoved_to owned at (goals_of slots h targets) no_goals (is_rapid h))
+  unmoved owned at = rw (have_all, no_slots, no_axes) (unmoved_to owned at (goals_of slots h targets) no_goals (is_rapid h))

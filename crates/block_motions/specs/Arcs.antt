@@ -7,7 +7,7 @@ use Rattle.block_motions.specs.declared.goals.Goal.{Goal}
 use Rattle.block_motions.specs.declared.goals.Goal.TheVariants.{To, By, TooFar}
 use Rattle.block_motions.specs.declared.goals.Programmed.{Programmed}
 use Rattle.block_motions.specs.declared.goals.Targets.{Targets}
-use Rattle.block_motions.specs.Goals.{ConditionsView, chain_in, change_by, goal_through, axis_in, have_axes, goals_of}
+use Rattle.block_motions.specs.Goals.{ConditionsView, chain_in, change_by, goal_through, axis_in, have_axes, goals_of, is_any, is_off_plane}
 use Rattle.block_motions.specs.Motions.{goal_at, are_in_reach, are_own, ends_from}
 use Rattle.frames.specs.Images.{image_of, other_sign}
 use Rattle.frames.specs.Maps.{first_axis, second_axis}
@@ -22,16 +22,12 @@ use Rattle.micro_units.specs.Position.{is_position}
 use Rattle.path_geometry.specs.declared.motion.Motion.{Motion}
 use Rattle.block_motions.specs.Sides.{SideView}
 use Rattle.block_motions.specs.declared.words.ArcWords.{ArcWords}
-use Rattle.fault_codes.specs.declared.alarms.TheConstants.{ARC_SCALE, ARC_WORDS, AXIS_NOT_OWNED, CENTRE_OUTSIDE_PLANE, NO_SUCH_AXIS, OUT_OF_RANGE}
+use Rattle.fault_codes.specs.declared.alarms.TheConstants.{ARC_SCALE, ARC_WORDS, AXIS_NOT_OWNED, CENTRE_OUTSIDE_PLANE, NO_SUCH_AXIS, OUT_OF_RANGE, TOOL_PLANE}
 use Rattle.g_groups.specs.declared.numbers.TheConstants.{MOTION_GROUP, PLANE_GROUP}
 
 -- the axes X, Y and Z are 0, 1 and 2; I, J and K are the words of the centre on them
 
 -- ---- the words
-
--- one of these values is programmed
-abbrev pub is_any : List (Option Programmed) → Bool
-is_any values = list_any (λ value. is_some value) values
 
 abbrev pub moves_arc : Targets → ArcWords → Bool
 moves_arc targets words = is_any targets.slots || (is_any targets.axes || is_any words.centre)
@@ -192,11 +188,12 @@ arc_to owned h at words sides goals =
     else if not (can_run sides ends) then Err OUT_OF_RANGE
     else some_motion (arc_given h at words words.radius sides ends)
 
--- the arc in a plane; alarm 23 where the frame has two factors in it
+-- the arc in a plane; alarm 35 where a tool of some length is used under G17 or G19, then 23 where the frame has two factors in the plane
 abbrev pub arc_between : List (Option ℕ) → List Bool → ConditionsView → (ℕ → ℤ) → Targets → ArcWords → Plane → Option (SideView × SideView) → Result (Option Motion) ℕ
 arc_between slots owned h at targets words plane None = Err NO_SUCH_AXIS
 arc_between slots owned h at targets words plane (Some sides) =
-    if not (have_one_factor h plane) then Err ARC_SCALE
+    if is_off_plane h then Err TOOL_PLANE
+    else if not (have_one_factor h plane) then Err ARC_SCALE
     else arc_to owned h at words (in_turn (is_backward h plane) sides) (arc_goals slots h targets sides)
 
 -- the arc of words that can be one; alarm 14 where the frame sends X, Y or Z, if it is programmed or of the plane, to a slot without axis

@@ -1,6 +1,8 @@
 -- Meaning. Where the programmed axes of a block go: X, Y and Z through the frame to the slots of the channel, other axes by their own names.
-use Rattle.std.specs.Prelude.{◌≡◌, ℕ, ◌<◌, ℤ, pos, ◌*ℤ◌, ◌==◌, ◌&&◌, ◌||◌, not, nat_le, Bool, true, false, if◌then◌else◌, List, [], map, slice_index, slice_index_or, slice_set, Option, None, Some, is_some, option_map}
+use Rattle.std.specs.Prelude.{◌≡◌, ℕ, ◌<◌, ℤ, pos, ◌+ℤ◌, ◌*ℤ◌, ◌==◌, ◌&&◌, ◌||◌, not, nat_le, Bool, true, false, if◌then◌else◌, List, [], map, slice_index, slice_index_or, slice_set, Option, None, Some, is_some, option_map}
 use Rattle.std.specs.Int.RustNames.{unsigned_abs}
+use Rattle.std.specs.List.{list_any}
+use Rattle.std.specs.Ordering.{int_eq}
 use Rattle.frames.specs.Composition.{IsComposed}
 use Rattle.frames.specs.Images.{image_of}
 use Rattle.frames.specs.Maps.{Map, mapped_point}
@@ -14,7 +16,7 @@ use Rattle.block_motions.specs.declared.goals.Goal.{Goal}
 use Rattle.block_motions.specs.declared.goals.Goal.TheVariants.{To, By, TooFar}
 use Rattle.block_motions.specs.declared.goals.Programmed.{Programmed}
 use Rattle.block_motions.specs.declared.goals.Targets.{Targets}
-use Rattle.g_groups.specs.declared.numbers.TheConstants.{BLOCK_GROUP, DIAM90, DIAMETER_GROUP, DIAMON, DIMENSION_GROUP}
+use Rattle.g_groups.specs.declared.numbers.TheConstants.{BLOCK_GROUP, DIAM90, DIAMETER_GROUP, DIAMON, DIMENSION_GROUP, PLANE_GROUP}
 use Rattle.micro_units.specs.declared.limits.TheConstants.{CHANGE_LIMIT}
 use Rattle.micro_units.specs.Position.{is_position}
 
@@ -22,11 +24,12 @@ use Rattle.micro_units.specs.Position.{is_position}
 
 -- ---- what holds in a block
 
--- the code of the word of each group, the programmable frame, and the settable offset of each slot in micrometres
+-- the code of the word of each group, the programmable frame, and of each slot the settable offset and the length of the tool, in micrometres
 pub record ConditionsView : Type 0 where
   pub word : ℕ → ℕ
   pub chain : List Map
   pub offset : ℕ → ℤ
+  pub length : ℕ → ℤ
 
 -- G53, G153 and SUPA, the words of group 9, take the empty frame and no offset for their block
 abbrev pub chain_in : ConditionsView → List Map
@@ -34,6 +37,10 @@ chain_in h = if h.word BLOCK_GROUP == 0 then h.chain else []
 
 abbrev pub offset_in : ConditionsView → ℕ → ℤ
 offset_in h slot = if h.word BLOCK_GROUP == 0 then h.offset slot else pos 0
+
+-- a tool of some length is used, under G17 or G19: its lengths lie in the plane of G18
+abbrev pub is_off_plane : ConditionsView → Bool
+is_off_plane h = (h.word PLANE_GROUP == 17 || h.word PLANE_GROUP == 19) && not (int_eq (h.length 0) (pos 0) && int_eq (h.length 2) (pos 0))
 
 -- a value is a change with IC, and under G91 without AC
 abbrev pub is_change : ConditionsView → Measure → Bool
@@ -69,17 +76,31 @@ slot_of h axis = (image_of (chain_in h) axis).slot
 abbrev pub place_of : ConditionsView → ℕ → ℤ → ℤ
 place_of h axis twice = end_at (mapped_point (chain_in h) (programmed_point (on_axis axis twice))) (slot_of h axis) (offset_in h (slot_of h axis))
 
--- the goal of X, Y or Z with this value
+-- a position with a length more; both it and the position itself are to be in range
+abbrev pub lengthened : ℤ → Goal → Goal
+lengthened length (To at) = position_at (at +ℤ length)
+lengthened length (By change) = By change
+lengthened length TooFar = TooFar
+
+-- the goal of X, Y or Z with this value: an end has the length of the tool in its slot, a change has none
 abbrev pub goal_through : ConditionsView → ℕ → Programmed → Goal
 goal_through h axis p =
     if is_change h p.measure then change_by (change_of (image_of (chain_in h) axis) (twice_of h axis p))
-    else position_at (place_of h axis (twice_of h axis p))
+    else lengthened (h.length (slot_of h axis)) (position_at (place_of h axis (twice_of h axis p)))
 
 -- an axis by its own name goes without frame, offset and diameter
 abbrev pub goal_by_name : ConditionsView → Programmed → Goal
 goal_by_name h p = if is_change h p.measure then change_by (half_away p.value 1000) else position_at (half_away p.value 1000)
 
 -- ---- the goals of a block
+
+-- one of these values is programmed
+abbrev pub is_any : List (Option Programmed) → Bool
+is_any values = list_any (λ value. is_some value) values
+
+-- X, Y or Z is programmed, or an axis by its own name
+abbrev pub is_programmed : Targets → Bool
+is_programmed targets = is_any targets.slots || is_any targets.axes
 
 -- the axis that X, Y or Z moves: the one in the slot to which the frame sends it
 abbrev pub axis_in : List (Option ℕ) → ConditionsView → ℕ → Option ℕ
@@ -113,8 +134,9 @@ goals_of slots h targets =
 
 -- ---- answers
 
--- the code keeps what holds: the words by groups, the composition of the frame, and the offsets of the three slots
+-- the code keeps what holds: the words by groups, the composition of the frame, and the offsets and the lengths of the three slots
 pub record AreInForce (h : ConditionsView) (kept : Conditions) : Type 0 where
   pub words : (group : ℕ) → HasModalValue group → slice_index kept.modal group ≡ h.word group
   pub frame : IsComposed h.chain kept.frame
   pub offsets : (slot : ℕ) → slot < 3 → slice_index_or kept.offsets slot (pos 0) ≡ h.offset slot
+  pub lengths : (slot : ℕ) → slot < 3 → slice_index_or kept.lengths slot (pos 0) ≡ h.length slot

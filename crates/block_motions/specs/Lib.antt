@@ -1,4 +1,5 @@
 pub mod Arcs
 pub mod Goals
+pub mod Lengths
 pub mod Motions
 pub mod Sides

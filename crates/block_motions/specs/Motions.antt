@@ -11,8 +11,8 @@ use Rattle.path_geometry.specs.declared.motion.Motion.TheVariants.{Line, Rapid}
 use Rattle.block_motions.specs.declared.goals.Goal.{Goal}
 use Rattle.block_motions.specs.declared.goals.Goal.TheVariants.{To, By, TooFar}
 use Rattle.block_motions.specs.declared.goals.Targets.{Targets}
-use Rattle.block_motions.specs.Goals.{ConditionsView, have_axes, goals_of}
-use Rattle.fault_codes.specs.declared.alarms.TheConstants.{AXIS_NOT_OWNED, NO_SUCH_AXIS, OUT_OF_RANGE}
+use Rattle.block_motions.specs.Goals.{ConditionsView, have_axes, goals_of, is_off_plane, is_programmed}
+use Rattle.fault_codes.specs.declared.alarms.TheConstants.{AXIS_NOT_OWNED, NO_SUCH_AXIS, OUT_OF_RANGE, TOOL_PLANE}
 use Rattle.axis_sets.specs.declared.limits.TheConstants.{AXIS_LIMIT}
 use Rattle.g_groups.specs.declared.numbers.TheConstants.{MOTION_GROUP, RAPID_GROUP, RTLIOF}
 
@@ -81,10 +81,11 @@ straight_motion_to owned at rapid goals =
     else if not (are_own owned goals) then Err AXIS_NOT_OWNED
     else Ok (motion_if_any rapid (ends_from at goals))
 
--- the motion of a block, a line or a rapid, that programs these values, of a channel with these slots and axes, where this holds and the axes stand so; alarm 14, before the others, where the frame sends X, Y or Z to a slot without axis
+-- the motion of a block, a line or a rapid, that programs these values, of a channel with these slots and axes, where this holds and the axes stand so; alarm 14, before the others, where the frame sends X, Y or Z to a slot without axis, and then 35 where it moves with a tool of some length under G17 or G19
 unfoldable pub straight_motion : List (Option ℕ) → List Bool → ConditionsView → (ℕ → ℤ) → Targets → Result (Option Motion) ℕ
 straight_motion slots owned h at targets =
     if not (have_axes slots h targets.slots) then Err NO_SUCH_AXIS
+    else if is_programmed targets && is_off_plane h then Err TOOL_PLANE
     else straight_motion_to owned at (is_rapid h) (goals_of slots h targets)
 
 -- the answer of one who puts a motion in its place

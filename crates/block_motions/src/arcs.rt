@@ -14,7 +14,7 @@ ghost use Rattle.block_motions.specs.Arcs as model;
 use crate::axes::ChannelAxes;
 use crate::goals::{
     Conditions, Goal, Programmed, Targets, change_through, frame_in, goal_through, have_axes,
-    put_goals,
+    is_off_plane, put_goals,
 };
 use crate::motions::{are_in_reach, are_own, move_axes, stands};
 use crate::planes::Side;
@@ -23,6 +23,7 @@ use crate::words::{ArcWords, centre_word, is_given, is_in_plane, moves_arc, plan
 use axis_sets::{AXIS_LIMIT, AxisId, Positions};
 use fault_codes::alarms::{
     ARC_SCALE, ARC_WORDS, AXIS_NOT_OWNED, CENTRE_OUTSIDE_PLANE, NO_SUCH_AXIS, OUT_OF_RANGE,
+    TOOL_PLANE,
 };
 use frames::Plane;
 use micro_units::{Num, Um, is_position};
@@ -348,6 +349,9 @@ impl<'a> ArcBlock<'a> {
         let conditions = self.conditions;
         match sides_in(slots, conditions, plane) {
             Some(sides) => {
+                if is_off_plane(conditions) {
+                    return Err(TOOL_PLANE);
+                }
                 if !have_one_factor(conditions, plane) {
                     return Err(ARC_SCALE);
                 }
@@ -381,14 +385,15 @@ impl<'a> ArcBlock<'a> {
 /// The plane is that of G17, G18 or G19, with the axes X and Y, Z and X, or Y and Z. G3 turns from
 /// the first towards the second, G2 against that, each as the frame maps the plane. Both axes of
 /// the plane are of the motion; one that is not programmed stays. I, J and K are changes from the
-/// start, whatever G90 and G91 say, and never diameters; with AC they are read as ends. The alarms
+/// start, whatever G90 and G91 say, and never diameters; with AC they are read as ends, with the length of the tool. The alarms
 /// come in this order, and after one no axis has moved:
 ///
 /// - 18: there is neither or both of a centre and a radius, or the radius is 0.
 /// - 19: the centre has a word of the axis that is not of the plane.
 /// - 14: the frame sends X, Y or Z, if it is programmed or of the plane, to a slot without axis.
+/// - 35: a length of the tool is not 0, under G17 or G19.
 /// - 23: the frame has two factors in the plane.
-/// - 13: an axis would end more than 10,000,000 micrometres from 0, or change by more than
+/// - 13: an axis would end, with the length of the tool or without it, more than 10,000,000 micrometres from 0, or change by more than
 ///   20,000,000. Of an axis that is not owned a change is tested alone.
 /// - 15: an axis is not owned.
 /// - 13: the centre or the radius is more than 10,000,000 micrometres in size, or, as in no job, an

@@ -13,7 +13,7 @@ ghost use Rattle.block_motions.specs.Goals.{ConditionsView, AreInForce};
 
 use axis_sets::{AXIS_LIMIT, AxisId};
 use frames::Frame;
-use g_groups::{BLOCK_GROUP, DIAM90, DIAMETER_GROUP, DIAMON, DIMENSION_GROUP, Modal};
+use g_groups::{BLOCK_GROUP, DIAM90, DIAMETER_GROUP, DIAMON, DIMENSION_GROUP, Modal, PLANE_GROUP};
 use micro_units::{Num, Um, is_position};
 use nc_blocks::Measure;
 
@@ -44,6 +44,8 @@ pub struct Conditions {
     pub frame: Frame,
     /// The settable offsets of the slots X, Y and Z under the word of their group, in micrometres.
     pub offsets: [Um; 3],
+    /// The lengths of the tool in the slots X, Y and Z, in micrometres.
+    pub lengths: [Um; 3],
 }
 
 /// Where an axis is to go.
@@ -93,6 +95,24 @@ fn offset_in(conditions: &Conditions, slot: u8) -> Um
         return Um { micrometres: 0 };
     }
     conditions.offsets[usize::from(slot)]
+}
+
+/// The length of the tool in a slot.
+fn length_in(conditions: &Conditions, slot: u8) -> Um
+    requires { slot < 3 }
+    ensures { (h : ConditionsView) → AreInForce h conditions.now → result ≡ h.length slot }
+{
+    conditions.lengths[usize::from(slot)]
+}
+
+/// Whether a tool of some length is used, under G17 or G19.
+#[tactic(auto, using(crate::proofs::HeldWords::has_plane_word))]
+pub(crate) fn is_off_plane(conditions: &Conditions) -> bool
+    ensures { (h : ConditionsView) → AreInForce h conditions.now → result ≡ model.is_off_plane h }
+{
+    let code = word(conditions, PLANE_GROUP);
+    let [x, _, z] = conditions.lengths;
+    (code == 17 || code == 19) && !(x.micrometres == 0 && z.micrometres == 0)
 }
 
 /// Whether a value is a change of a position.
@@ -164,6 +184,28 @@ fn place_through(frame: &Frame, axis: u8, twice: i64, offset: Um) -> Goal
     }
 }
 
+/// To so many micrometres.
+fn goal_to(micrometres: i32) -> Goal
+    ensures { result ≡ model.position_at micrometres }
+{
+    if is_position(micrometres) {
+        Goal::To(Um { micrometres })
+    } else {
+        Goal::TooFar
+    }
+}
+
+/// A goal with a length more, where it is a position.
+fn lengthened(length: Um, goal: Goal) -> Goal
+    ensures { result ≡ model.lengthened length goal }
+{
+    match goal {
+        Goal::To(at) => goal_to(at.micrometres + length.micrometres),
+        Goal::By(change) => Goal::By(change),
+        Goal::TooFar => Goal::TooFar,
+    }
+}
+
 /// On by a value.
 fn change_by(value: Num) -> Goal
     ensures { result ≡ model.change_by (half_away value 1000) }
@@ -184,7 +226,8 @@ fn position_at(value: Num) -> Goal
     }
 }
 
-/// The goal of X, Y or Z with this value, through the frame of the block.
+/// The goal of X, Y or Z with this value, through the frame of the block. An end has the length of the tool in its slot, which
+/// the frame does not turn and does not scale.
 fn goal_in(conditions: &Conditions, frame: &Frame, axis: u8, programmed: Programmed) -> Goal
     requires { axis < 3 }
     ensures { (h : ConditionsView) → AreInForce h conditions.now → IsComposed (model.chain_in h) frame.now
@@ -195,8 +238,10 @@ fn goal_in(conditions: &Conditions, frame: &Frame, axis: u8, programmed: Program
     if change {
         change_through(frame, axis, twice)
     } else {
-        let offset = offset_in(conditions, slot_of(frame, axis));
-        place_through(frame, axis, twice, offset)
+        let slot = slot_of(frame, axis);
+        let offset = offset_in(conditions, slot);
+        let place = place_through(frame, axis, twice, offset);
+        lengthened(length_in(conditions, slot), place)
     }
 }
 

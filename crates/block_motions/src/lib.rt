@@ -17,6 +17,9 @@ mod words;
 pub use arcs::arc_motion;
 pub use axes::ChannelAxes;
 pub use goals::{Conditions, Programmed, Targets, word};
-pub use laws::{alarms_are_listed, arcs_begin_where_axes_stand, motions_begin_where_axes_stand};
+pub use laws::{
+    absolute_ends_have_the_length_of_their_slot, alarms_are_listed, arcs_begin_where_axes_stand,
+    motions_begin_where_axes_stand,
+};
 pub use motions::{stands, straight_motion};
 pub use words::{ArcWords, is_any};

@@ -7,11 +7,11 @@ ghost use Rattle.block_motions.specs.Goals.{ConditionsView, AreInForce};
 ghost use Rattle.block_motions.specs.Motions as model;
 
 use crate::axes::ChannelAxes;
-use crate::goals::{Conditions, Goal, Targets, have_axes, put_goals, word};
+use crate::goals::{Conditions, Goal, Targets, have_axes, is_off_plane, put_goals, word};
 use crate::words::is_any;
 use arrayvec::ArrayVec;
 use axis_sets::{AXIS_LIMIT, AxisId, AxisSet, Positions};
-use fault_codes::alarms::{AXIS_NOT_OWNED, NO_SUCH_AXIS, OUT_OF_RANGE};
+use fault_codes::alarms::{AXIS_NOT_OWNED, NO_SUCH_AXIS, OUT_OF_RANGE, TOOL_PLANE};
 use g_groups::{MOTION_GROUP, RAPID_GROUP, RTLIOF};
 use micro_units::{Um, is_position};
 use path_geometry::{Ends, Motion};
@@ -185,10 +185,12 @@ fn move_to(
 ///
 /// X, Y and Z are halved where they are diameters, and go through the frame to the slots, with
 /// their offsets; axes by their own names go without either. A value in millimetres is rounded
-/// once, to whole micrometres. The alarms come in this order, and after one no axis has moved:
+/// once, to whole micrometres. An end of X, Y or Z, and no change, has the length of the tool in its slot besides.
+/// The alarms come in this order, and after one no axis has moved:
 ///
 /// - 14: the frame sends X, Y or Z to a slot without axis.
-/// - 13: an axis would end more than 10,000,000 micrometres from 0, or change by more than
+/// - 35: a length of the tool is not 0, under G17 or G19.
+/// - 13: an axis would end, with the length of the tool or without it, more than 10,000,000 micrometres from 0, or change by more than
 ///   20,000,000. Of an axis that is not owned, of which nobody knows where it stands, a change is
 ///   tested alone.
 /// - 15: an axis is not owned.
@@ -212,6 +214,9 @@ pub fn straight_motion(
     }
     if !have_axes(&axes.slots, conditions, &targets.slots) {
         return Err(NO_SUCH_AXIS);
+    }
+    if is_off_plane(conditions) {
+        return Err(TOOL_PLANE);
     }
     let mut goals = [None; AXIS_LIMIT];
     put_goals(&mut goals, &axes.slots, conditions, targets);

@@ -1,7 +1,7 @@
 //! What a block programs of an arc besides its ends.
 
 ghost use Rattle.std.specs.Prelude.{◌≡◌, ◌<◌};
-ghost use Rattle.block_motions.specs.Goals.{ConditionsView, AreInForce};
+ghost use Rattle.block_motions.specs.Goals.{ConditionsView, AreInForce, is_any as is_any_of};
 ghost use Rattle.block_motions.specs.Arcs as model;
 
 use crate::goals::{Conditions, Programmed, Targets, word};
@@ -20,7 +20,7 @@ pub struct ArcWords {
 
 /// Whether one of the values is programmed.
 pub fn is_any(values: &[Option<Programmed>]) -> bool
-    ensures { result ≡ model.is_any values.now }
+    ensures { result ≡ is_any_of values.now }
 {
     values.iter().any(|value| value.is_some())
 }

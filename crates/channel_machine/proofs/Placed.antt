@@ -1,5 +1,5 @@
 -- What stands where control is, and what it finds, by what is kept.
-use Rattle.std.proofs.Common.{◌≡◌, ◌∙◌, ℕ, zero, suc, ◌+◌, ◌-◌, ◌<◌, ◌≤◌, nat_lt, ℤ, Bool, true, false, List, [], ◌∷◌, map, length, slice_get, Option, None, Some, refl, sym, ap, arith}
+use Rattle.std.proofs.Common.{◌≡◌, ◌∙◌, ℕ, zero, suc, ◌+◌, ◌-◌, ◌<◌, ◌≤◌, nat_lt, ℤ, Bool, true, false, List, [], ◌∷◌, map, length, slice_get, Option, None, Some, unwrap_or, refl, sym, ap, arith}
 use mathlib.Core.Path.{fun_ext}
 use Rattle.std.proofs.lemmas.Bool.Decides.{nat_tests}
 use Rattle.std.proofs.lemmas.List.{length-map}
@@ -20,8 +20,11 @@ use Rattle.job_types.specs.Job.{JobView, ProgramView}
 use Rattle.channel_machine.specs.Kept.{StateView, IsSettingIn, Keeps}
 use Rattle.channel_machine.specs.declared.levels.Levels.{Levels}
 use Rattle.channel_machine.specs.Levels.{lines_of, program_blocks, levels_after}
-use Rattle.channel_machine.specs.Run.{SurroundingsView, Channel, setup_after, setting_after, parameters_after, words_after, chain_after, stands_after, found_after, block_at, opener_at}
+use Rattle.channel_machine.specs.Run.{SurroundingsView, Channel, setup_after, setting_after, parameters_after, words_after, chain_after, choices_after, edges_in, stands_after, found_after, block_at, opener_at}
 use Rattle.job_types.specs.Slots.{offset_of}
+use Rattle.channel_machine.specs.Tools.{tools_of}
+use Rattle.tool_offsets.specs.Choices.{Choice, in_use_after}
+use Rattle.tool_offsets.specs.declared.tools.ToolEdge.{ToolEdge}
 use Rattle.job_types.specs.Axes.{axis_named}
 
 -- what the blocks find in a job, by what is kept
@@ -30,12 +33,13 @@ equipment_in job k = record {
   names = map (λ p. p.0) job.programs;
   axis_named = axis_named job.axes;
   offset = offset_of job k.channel;
+  tools = tools_of job k.channel;
   slots = k.slots;
   owned = k.axes;
 }
 
-abbrev pub found_with : List (List GWord) → List Map → List ℤ → (ℕ → ℤ) → SituationView
-found_with words chain parameters at = record { parameters = parameters; words = words; chain = chain; at = at }
+abbrev pub found_with : List (List GWord) → List Map → List Choice → List ℤ → (ℕ → ℤ) → SituationView
+found_with words chain choices parameters at = record { parameters = parameters; words = words; chain = chain; choices = choices; at = at }
 
 pub viewed : {X Y : Type 0} (view : X → Y) (xs : List X) (k : ℕ) (x : X) → slice_get xs k ≡ Some x → slice_get (map view xs) k ≡ Some (view x)
 viewed view [] zero x is = absurd cc
@@ -74,19 +78,26 @@ module _ (s : SurroundingsView) (programs : List (List ℕ × ProgramView)) (sam
 
 module _ (job : JobView) (s : SurroundingsView) (c : Channel) (k : StateView) (set : IsSettingIn job s k) (keeps : Keeps s c k) where
   equipment_is : setup_after s c.past ≡ equipment_in job k
-  equipment_is = rw (set.programs, set.axes, set.offset, keeps.slots, keeps.axes) refl
+  equipment_is = rw (set.programs, set.axes, set.offset, set.tools, keeps.slots, keeps.axes) refl
 
-  found_is : found_after s c.past ≡ found_with (words_after c.past) (chain_after c.past) k.parameters (stands k.at)
+  -- what is in use, by the tools of the job
+  pub tool_there : k.tool ≡ in_use_after (unwrap_or (tools_of job k.channel) []) (choices_after c.past)
+  tool_there = keeps.tool ∙ ap (λ (tools : Option (List ToolEdge)). in_use_after (unwrap_or tools []) (choices_after c.past)) set.tools
+
+  pub edges_there : edges_in s ≡ unwrap_or (tools_of job k.channel) []
+  edges_there = ap (λ (tools : Option (List ToolEdge)). unwrap_or tools []) set.tools
+
+  found_is : found_after s c.past ≡ found_with (words_after c.past) (chain_after c.past) (choices_after c.past) k.parameters (stands k.at)
   found_is =
-      ap (λ (ps : List ℤ). found_with (words_after c.past) (chain_after c.past) ps (stands_after s c.past)) (sym keeps.parameters)
-      ∙ ap (λ (at : ℕ → ℤ). found_with (words_after c.past) (chain_after c.past) k.parameters at) (sym (fun_ext keeps.at))
+      ap (λ (ps : List ℤ). found_with (words_after c.past) (chain_after c.past) (choices_after c.past) ps (stands_after s c.past)) (sym keeps.parameters)
+      ∙ ap (λ (at : ℕ → ℤ). found_with (words_after c.past) (chain_after c.past) (choices_after c.past) k.parameters at) (sym (fun_ext keeps.at))
 
   -- what the block does, by what is kept
   pub effect_there : (here : Place) (line : ℕ) (opener statement : Statement) → opener_at s here ≡ opener
-      → effect_of (equipment_in job k) (found_with (words_after c.past) (chain_after c.past) k.parameters (stands k.at)) line opener statement
+      → effect_of (equipment_in job k) (found_with (words_after c.past) (chain_after c.past) (choices_after c.past) k.parameters (stands k.at)) line opener statement
       ≡ effect_of (setup_after s c.past) (found_after s c.past) line (opener_at s here) statement
   effect_there here line opener statement is =
-      ap (λ (e : SetupView). effect_of e (found_with (words_after c.past) (chain_after c.past) k.parameters (stands k.at)) line opener statement) (sym equipment_is)
+      ap (λ (e : SetupView). effect_of e (found_with (words_after c.past) (chain_after c.past) (choices_after c.past) k.parameters (stands k.at)) line opener statement) (sym equipment_is)
       ∙ ap (λ (f : SituationView). effect_of (setup_after s c.past) f line opener statement) (sym found_is) ∙ ap (λ (o : Statement). effect_of (setup_after s c.past) (found_after s c.past) line o statement) (sym is)
 
   -- what the block asks for, by what is kept

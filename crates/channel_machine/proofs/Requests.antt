@@ -1,7 +1,7 @@
 -- What blocks of coordination ask for: an action that is no alarm, or an alarm of the table.
 use Rattle.std.proofs.Common.{◌≡◌, ℕ, ℤ, List, Option, None, Some, IfOk, Result, Ok, Err, refl, ap, subst, ◌∙◌}
 use Rattle.std.specs.Prelude.{⊤}
-use Rattle.block_effects.proofs.AlarmLaws.{IsListed, bind_listed}
+use Rattle.nc_expressions.proofs.ListedAlarms.{IsListed, bind_listed}
 use Rattle.block_effects.specs.Effects.{Effect, Turning, SituationView, turned_only, control_effect, effect_of}
 use Rattle.block_effects.specs.Words.{SetupView}
 use Rattle.channel_machine.specs.Coordination.{request_in}

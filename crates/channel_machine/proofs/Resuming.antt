@@ -12,7 +12,8 @@ use Rattle.frames.specs.declared.Frame.{Frame}
 use Rattle.g_groups.specs.Modal.{IsAfter}
 use Rattle.sync_types.specs.declared.Grant.{Grant}
 use Rattle.channel_machine.specs.Kept.{StateView, Keeps, IsAfterGrant}
-use Rattle.channel_machine.specs.Run.{SurroundingsView, Executed, Channel, chain_after, channel_after_grant, header_of, words_after}
+use Rattle.channel_machine.specs.Run.{SurroundingsView, Executed, Channel, chain_after, channel_after_grant, edges_in, header_of, words_after}
+use Rattle.tool_offsets.specs.Choices.{Choice, in_use_after}
 use Rattle.channel_machine.proofs.Pasts.{blocks_of-got, grant-got, on-got, stands-got}
 
 module _ (s : SurroundingsView) (c : Channel) (old new : StateView) (grant : Grant) (keeps : Keeps s c old) (is : IsAfterGrant old grant new) where
@@ -30,6 +31,9 @@ module _ (s : SurroundingsView) (c : Channel) (old new : StateView) (grant : Gra
         frame =
             subst (λ (es : List Executed). IsComposed (fold (λ (_ : List Map) (e : Executed). e.effect.chain) [] es) new.frame) (sym blocks)
             (subst (λ (f : Frame). IsComposed (chain_after c.past) f) (sym (ap (λ (k : StateView). k.frame) is.same)) keeps.frame);
+        tool =
+            ap (λ (k : StateView). k.tool) is.same ∙ keeps.tool
+            ∙ sym (ap (λ (es : List Executed). in_use_after (edges_in s) (fold (λ (_ : List Choice) (e : Executed). e.effect.choices) [] es)) blocks);
         at = λ axis. is.at axis ∙ ap (λ (z : ℤ). unwrap_or (position_of grant.at axis) z) (keeps.at axis) ∙ sym (stands-got s c.past grant axis);
         slots = ap (λ (k : StateView). k.slots) is.same ∙ keeps.slots;
         axes = ap (λ (k : StateView). k.axes) is.same ∙ sym (ap (λ (g : Grant). g.axes) (grant-got s c.past grant));

@@ -4,7 +4,8 @@ use mathlib.Core.Path.{fun_ext}
 use Rattle.std.specs.Option.{option_to_list}
 use Rattle.block_motions.specs.Motions.{IsMotionOf}
 use Rattle.block_effects.specs.Effects.{Course, Goes, Ends, Calls, effect_of}
-use Rattle.block_effects.proofs.AlarmLaws.{IsListed, bind_listed, effect_listed, listed_8, listed_9}
+use Rattle.block_effects.proofs.AlarmLaws.{effect_listed, listed_8, listed_9}
+use Rattle.nc_expressions.proofs.ListedAlarms.{IsListed, bind_listed}
 use Rattle.block_effects.proofs.EffectLaws.{effect_is}
 use Rattle.channel_machine.proofs.Follows.{AllFollow, AllFollow-push, follows_none, ends_in_range, sound_motions, still_follows}
 use Rattle.nc_blocks.specs.Statement.{BlockView}

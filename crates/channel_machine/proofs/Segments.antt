@@ -10,6 +10,7 @@ use Rattle.channel_machine.specs.declared.levels.Levels.{Levels}
 use Rattle.channel_machine.specs.Kept.{StateView, Keeps, GoesOn, Advances, IsSegment, IsSettingIn}
 use Rattle.channel_machine.specs.Run.{SurroundingsView, Channel, SegmentView, blocks_of, run_after, segment_of}
 use Rattle.job_types.specs.Slots.{offset_of}
+use Rattle.channel_machine.specs.Tools.{tools_of}
 
 pub if_ok : {A E : Type 0} {P Q : A → Type 0} (r : Result A E) → ((x : A) → P x → Q x) → IfOk r P → IfOk r Q
 if_ok (Ok x) each p = each x p
@@ -92,5 +93,6 @@ setting_kept job s k later set same = record {
   axes = set.axes;
   zones = set.zones;
   offset = set.offset ∙ ap (λ (n : ℕ). offset_of job n) (sym same);
+  tools = set.tools ∙ ap (λ (n : ℕ). tools_of job n) (sym same);
   skip = set.skip;
 }

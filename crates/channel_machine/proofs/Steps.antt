@@ -26,8 +26,10 @@ use Rattle.sync_types.specs.declared.Item.{Item}
 use Rattle.sync_types.specs.declared.Step.{Step}
 use Rattle.channel_machine.specs.declared.levels.Levels.{Levels}
 use Rattle.channel_machine.specs.Levels.{levels_after}
-use Rattle.channel_machine.specs.Run.{SurroundingsView, Executed, Deed, Did, Channel, SegmentView, blocks_of, item_by, item_of, on_after, on_by_request, parameters_after, setting_after, setup_after, grant_after, header_of, words_after, found_after, stands_after, line_after, opener_at, block_at, executed_block, step_at, step_after, alarm_segment, with_items_before, channel_at_end, ends_main, segment_after_block, segment_after_request, run_after, segment_of}
+use Rattle.channel_machine.specs.Run.{SurroundingsView, Executed, Deed, Did, Channel, SegmentView, blocks_of, edges_in, item_by, item_of, on_after, on_by_request, parameters_after, setting_after, setup_after, grant_after, header_of, words_after, found_after, stands_after, line_after, opener_at, block_at, executed_block, step_at, step_after, alarm_segment, with_items_before, channel_at_end, ends_main, segment_after_block, segment_after_request, run_after, segment_of}
 use Rattle.channel_machine.specs.Kept.{StateView, Keeps, GoesOnBy, Advances, Halts, IsBlockMore, IsFollowing, IsHeld, IsSegment, after_block}
+use Rattle.tool_offsets.specs.Choices.{Choice, in_use_after}
+use Rattle.tool_offsets.specs.declared.tools.ToolEdge.{ToolEdge}
 use Rattle.channel_machine.proofs.PlacedChannels.{placed_block}
 use Rattle.channel_machine.proofs.Requests.{asked_no_alarm}
 use Rattle.channel_machine.proofs.Pasts.{fold-did, map-did, count-did, grant-did, on-did, stands-did}
@@ -81,13 +83,13 @@ step_kept s past k axes on at line here action is =
     ∙ ap (λ (f : ℕ → ℤ). step_at (grant_after s past).axes (on_after s past) f line action) (fun_ext at) ∙ ap (λ (n : ℕ). step_after s past n action) is
 
 -- what was done is the effect of the block
-pub effect_done : (r : Result Effect ℕ) (done : Done) (new : Situation) → Does r done new → (effect : Effect) × (r ≡ Ok effect) × IsLeft effect done new
-effect_done (Ok effect) done new is = (effect, refl, is)
-effect_done (Err code) done new is = absurd is
+pub effect_done : (edges : List ToolEdge) (r : Result Effect ℕ) (done : Done) (new : Situation) → Does edges r done new → (effect : Effect) × (r ≡ Ok effect) × IsLeft edges effect done new
+effect_done edges (Ok effect) done new is = (effect, refl, is)
+effect_done edges (Err code) done new is = absurd is
 
 -- what is kept, in another situation
 abbrev pub in_situation : StateView → Option Levels → Situation → StateView
-in_situation k levels new = record k { levels = levels; parameters = new.parameters; modal = new.modal; frame = new.frame; at = new.at }
+in_situation k levels new = record k { levels = levels; parameters = new.parameters; modal = new.modal; frame = new.frame; tool = new.tool; at = new.at }
 
 module _ (s : SurroundingsView) (c : Channel) (k : StateView) (keeps : Keeps s c k) (before : List Item) where
   step_is : (line here : ℕ) (action : Action) → line ≡ here → step_at k.axes k.on (stands k.at) line action ≡ step_after s c.past here action
@@ -102,6 +104,7 @@ module _ (s : SurroundingsView) (c : Channel) (k : StateView) (keeps : Keeps s c
     parameters = keeps.parameters;
     modal = keeps.modal;
     frame = keeps.frame;
+    tool = keeps.tool;
     at = keeps.at;
     slots = keeps.slots;
     axes = keeps.axes;
@@ -243,7 +246,8 @@ module _ (s : SurroundingsView) (c : Channel) (k : StateView) (keeps : Keeps s c
           both : (segment : SegmentView) → with_items_before before (with_items_before (option_to_list (item_of this)) segment) ≡ with_items_before items_more segment
           both segment = ap (λ (items : List Item). segment_view items segment.step segment.after) (sym (append_assoc before (option_to_list (item_of this)) segment.items))
 
-          module _ (parameters : effect.parameters ≡ mid.parameters) (modal : IsAfter (words_after c.past ++ group_words block.statement ∷ []) mid.modal) (frame : IsComposed effect.chain mid.frame) where
+          module _ (parameters : effect.parameters ≡ mid.parameters) (modal : IsAfter (words_after c.past ++ group_words block.statement ∷ []) mid.modal) (frame : IsComposed effect.chain mid.frame)
+              (tool : mid.tool ≡ in_use_after (edges_in s) effect.choices) where
             keeps_after : (next : Option Levels) → Keeps s (after next) (kept_after next)
             keeps_after next = record {
               levels = refl;
@@ -252,6 +256,7 @@ module _ (s : SurroundingsView) (c : Channel) (k : StateView) (keeps : Keeps s c
               parameters = sym parameters ∙ sym (fold-did (λ (_ : List ℤ) (e : Executed). e.effect.parameters) zeros c.past this);
               modal = subst (λ (words : List (List GWord)). IsAfter words mid.modal) (sym (map-did (λ (e : Executed). group_words e.block.statement) c.past this)) modal;
               frame = subst (λ (chain : List Map). IsComposed chain mid.frame) (sym (fold-did (λ (_ : List Map) (e : Executed). e.effect.chain) [] c.past this)) frame;
+              tool = tool ∙ ap (in_use_after (edges_in s)) (sym (fold-did (λ (_ : List Choice) (e : Executed). e.effect.choices) [] c.past this));
               at = at_more;
               slots = slots ∙ keeps.slots;
               axes = axes_more;
@@ -284,6 +289,7 @@ module _ (s : SurroundingsView) (c : Channel) (k : StateView) (keeps : Keeps s c
                 parameters = sym parameters ∙ still.parameters;
                 modal = keeps.modal;
                 frame = subst (λ (chain : List Map). IsComposed chain mid.frame) still.chain frame;
+                tool = tool ∙ ap (in_use_after (edges_in s)) still.choices;
                 at = λ axis. same_stand axis ∙ keeps.at axis;
                 slots = slots ∙ keeps.slots;
                 axes = axes ∙ keeps.axes;
@@ -348,15 +354,15 @@ module _ (s : SurroundingsView) (c : Channel) (k : StateView) (keeps : Keeps s c
             after_so false goes halt items new is = led_so (levels_after s.skip s.programs levels effect.course) goes refl halt items new is
 
       -- what comes after a block that has done this
-      pub performed : (more : ℕ) → k.count + suc more ≡ 100000 → (done : Done) (new : Situation) → Does effect_here done new
+      pub performed : (more : ℕ) → k.count + suc more ≡ 100000 → (done : Done) (new : Situation) → Does (edges_in s) effect_here done new
           → IsAfter (words_after c.past ++ group_words block.statement ∷ []) new.modal → StandsAtEnd done.item k.at new.at
           → (request : Option Request) → request_here ≡ Ok request → (next : Option Levels) → next ≡ None → (halt : Option Step) (items : List Item) (kept : StateView)
           → IsFollowing (in_situation k next new) k.modal before done.item line request (ends_main levels (course_view done.course)) (levels_after s.skip s.programs levels (course_view done.course)) halt items kept
           → Advances s c before halt items kept
       performed more room done new does modal stand request asks next gone halt items kept is =
-          let (effect, made, left) = effect_done effect_here done new does in
+          let (effect, made, left) = effect_done (edges_in s) effect_here done new does in
           let mid = in_situation k next new in
           after_so more room request asks effect made mid gone refl refl refl refl refl (subst (λ (o : Option Item). StandsAtEnd o k.at new.at) (sym left.item) stand)
-          left.parameters modal left.frame (ends_main levels effect.course) refl halt items kept
+          left.parameters modal left.frame left.tool (ends_main levels effect.course) refl halt items kept
           (subst (λ (o : Option Item). IsFollowing mid k.modal before o line request (ends_main levels effect.course) (levels_after s.skip s.programs levels effect.course) halt items kept) (sym left.item)
           (subst (λ (course : Course). IsFollowing mid k.modal before done.item line request (ends_main levels course) (levels_after s.skip s.programs levels course) halt items kept) (sym left.course) is))

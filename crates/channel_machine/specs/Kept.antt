@@ -24,10 +24,13 @@ use Rattle.channel_machine.specs.declared.levels.Levels.{Levels}
 use Rattle.channel_machine.specs.declared.local.State.{State}
 use Rattle.job_types.specs.Job.{JobView, ProgramView, names_of}
 use Rattle.channel_machine.specs.Levels.{lines_of, program_blocks}
-use Rattle.channel_machine.specs.Run.{SurroundingsView, Executed, Deed, Did, Channel, SegmentView, block_at, item_of, parameters_after, chain_after, words_after, stands_after, line_after, blocks_of, grant_after, on_after, on_by_request, item_by, with_items_before, segment_of, step_at}
+use Rattle.channel_machine.specs.Run.{SurroundingsView, Executed, Deed, Did, Channel, SegmentView, block_at, item_of, parameters_after, chain_after, choices_after, edges_in, words_after, stands_after, line_after, blocks_of, grant_after, on_after, on_by_request, item_by, with_items_before, segment_of, step_at}
 use Rattle.job_types.specs.Slots.{offset_of}
+use Rattle.channel_machine.specs.Tools.{tools_of}
+use Rattle.tool_offsets.specs.Choices.{in_use_after}
+use Rattle.tool_offsets.specs.declared.in_use.ToolInUse.{ToolInUse}
 
--- where control is; how many blocks were executed, and the line of the last, or of the header; the parameters, the words of groups and the frame that hold; where the axes stand; the channel and the axes in its slots, which do not change; and the axes that it owns, and the zones that are on
+-- where control is; how many blocks were executed, and the line of the last, or of the header; the parameters, the words of groups and the frame that hold, and the tool in use; where the axes stand; the channel and the axes in its slots, which do not change; and the axes that it owns, and the zones that are on
 pub record StateView : Type 0 where
   pub levels : Option Levels
   pub count : ℕ
@@ -35,6 +38,7 @@ pub record StateView : Type 0 where
   pub parameters : List ℤ
   pub modal : List ℕ
   pub frame : Frame
+  pub tool : ToolInUse
   pub at : List (Option ℤ)
   pub channel : ℕ
   pub slots : List (Option ℕ)
@@ -50,6 +54,7 @@ pub record IsSettingIn (job : JobView) (setting : SurroundingsView) (kept : Stat
   pub axes : setting.axes ≡ job.axes
   pub zones : setting.zones ≡ job.zones
   pub offset : setting.offset ≡ offset_of job kept.channel
+  pub tools : setting.tools ≡ tools_of job kept.channel
   pub skip : setting.skip ≡ job.skip
 
 -- this is kept of a channel
@@ -60,6 +65,7 @@ pub record Keeps (setting : SurroundingsView) (channel : Channel) (kept : StateV
   pub parameters : kept.parameters ≡ parameters_after channel.past
   pub modal : IsAfter (words_after channel.past) kept.modal
   pub frame : IsComposed (chain_after channel.past) kept.frame
+  pub tool : kept.tool ≡ in_use_after (edges_in setting) (choices_after channel.past)
   pub at : (axis : ℕ) → stands kept.at axis ≡ stands_after setting channel.past axis
   pub slots : kept.slots ≡ setting.slots
   pub axes : kept.axes ≡ (grant_after setting channel.past).axes
@@ -127,6 +133,7 @@ state_view state = record {
   parameters = state.situation.parameters;
   modal = state.situation.modal;
   frame = state.situation.frame;
+  tool = state.situation.tool;
   at = state.situation.at;
   channel = state.channel;
   slots = state.own.slots;

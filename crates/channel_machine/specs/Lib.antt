@@ -7,6 +7,7 @@ pub mod StartStates
 pub mod Scripts
 pub mod Locals
 pub mod CallLevels
+pub mod Tools
 pub mod TracedSegments
 pub mod Passing
 pub mod RunGrants

@@ -33,13 +33,16 @@ use Rattle.channel_machine.specs.Coordination.{request_in, setting_with}
 use Rattle.channel_machine.specs.Levels.{lines_of, program_blocks, first_place, levels_from, levels_after}
 use Rattle.job_types.specs.Slots.{slot_axis, offset_of}
 use Rattle.job_types.specs.Axes.{axis_named}
+use Rattle.tool_offsets.specs.Choices.{Choice}
+use Rattle.tool_offsets.specs.declared.tools.ToolEdge.{ToolEdge}
+use Rattle.channel_machine.specs.Tools.{tools_of}
 use Rattle.fault_codes.specs.declared.alarms.TheConstants.{TOO_MANY_BLOCKS, NO_PROGRAM_END}
 use Rattle.axis_sets.specs.declared.limits.TheConstants.{AXIS_LIMIT}
 use Rattle.channel_machine.specs.declared.limits.TheConstants.{BLOCK_LIMIT}
 
 -- ---- what a channel runs by
 
--- the version of the job list; the channel; the CHANNEL lines, the programs, the AXIS lines and the ZONE lines of the job, the axes in the channel's slots X, Y and Z, the settable offset of each slot under each word of its group, whether blocks with '/' are passed over, and what the channel was granted at its start
+-- the version of the job list; the channel; the CHANNEL lines, the programs, the AXIS lines and the ZONE lines of the job, the axes in the channel's slots X, Y and Z, the settable offset of each slot under each word of its group, the edges of the channel's tools, or none where it has no tools, whether blocks with '/' are passed over, and what the channel was granted at its start
 pub record SurroundingsView : Type 0 where
   pub version : ℕ
   pub channel : ℕ
@@ -49,6 +52,7 @@ pub record SurroundingsView : Type 0 where
   pub zones : List ZoneLine
   pub slots : List (Option ℕ)
   pub offset : ℕ → ℕ → ℤ
+  pub tools : Option (List ToolEdge)
   pub skip : Bool
   pub grant : Grant
 
@@ -63,9 +67,14 @@ surroundings_of job channel grant = record {
   zones = job.zones;
   slots = slot_axis job channel 0 ∷ slot_axis job channel 1 ∷ slot_axis job channel 2 ∷ [];
   offset = offset_of job channel;
+  tools = tools_of job channel;
   skip = job.skip;
   grant = grant;
 }
+
+-- the edges of the channel's tools; none where it has no tools
+abbrev pub edges_in : SurroundingsView → List ToolEdge
+edges_in setting = unwrap_or setting.tools []
 
 -- the names of the programs, in the order of their numbers
 abbrev pub names : SurroundingsView → List (List ℕ)
@@ -108,6 +117,10 @@ chain_after past = fold (λ _ e. e.effect.chain) [] (blocks_of past)
 
 abbrev pub words_after : List Deed → List (List GWord)
 words_after past = map (λ e. group_words e.block.statement) (blocks_of past)
+
+-- the choices of tools and edges that the executed blocks have made, the last at the end
+abbrev pub choices_after : List Deed → List Choice
+choices_after past = fold (λ _ e. e.effect.choices) [] (blocks_of past)
 
 -- a grant takes the place of the one before it
 abbrev pub grant_by : Grant → Deed → Grant
@@ -183,6 +196,7 @@ setup_after setting past = record {
   names = names setting;
   axis_named = axis_named setting.axes;
   offset = setting.offset;
+  tools = setting.tools;
   slots = setting.slots;
   owned = (grant_after setting past).axes;
 }
@@ -192,6 +206,7 @@ found_after setting past = record {
   parameters = parameters_after past;
   words = words_after past;
   chain = chain_after past;
+  choices = choices_after past;
   at = stands_after setting past;
 }
 

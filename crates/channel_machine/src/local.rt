@@ -19,6 +19,7 @@ use out_of_memory::NoMemory;
 use std::alloc::{AllocError, Global};
 use std::marker::Model;
 use sync_types::Grant;
+use tool_offsets::ToolInUse;
 
 /// What a channel keeps between two blocks.
 #[derive(Drop)]
@@ -29,7 +30,8 @@ pub(crate) struct State {
     pub count: u32,
     /// The line of the last, or of the header of the main program.
     pub last: u32,
-    /// What its blocks find: the parameters, the words of groups and the frame that hold, and where the axes stand.
+    /// What its blocks find: the parameters, the words of groups and the frame that hold, the tool in use, and where the axes
+    /// stand.
     pub situation: Situation,
     /// The axes in its slots, and those that it owns.
     pub own: ChannelAxes,
@@ -58,6 +60,7 @@ fn copied_situation(situation: &Situation) -> Result<Situation, AllocError>
         parameters,
         modal: situation.modal,
         frame: situation.frame,
+        tool: situation.tool,
         at: situation.at,
     })
 }
@@ -206,6 +209,13 @@ impl Local {
         self.state.situation.modal.word(OFFSET_GROUP)
     }
 
+    /// The tool in use with its edge and the lengths of that, as the last words T and D of the executed blocks chose them.
+    pub fn tool(&self) -> ToolInUse
+        ensures { result ≡ self.now.tool }
+    {
+        self.state.situation.tool
+    }
+
     /// Goes on with a grant after the step that ended its last segment: it owns the axes of the grant, those with a
     /// position stand there, and its zones are on. All else lasts over the segments, the count of blocks too.
     pub fn resume(&mut self, grant: &Grant)
@@ -219,7 +229,7 @@ impl Local {
     }
 
     /// A channel at its start: its program at the first block, all parameters 0, the words of groups
-    /// that hold at the start, no frame, and its axes where the grant puts them.
+    /// that hold at the start, no frame, no tool, and its axes where the grant puts them.
     pub fn start(
         alloc: Global,
         job: &Job,
@@ -236,6 +246,7 @@ impl Local {
             parameters: Parameters::new(alloc)?,
             modal: Modal::start(),
             frame: Frame::empty(),
+            tool: ToolInUse::nothing(),
             at: grant.at,
         };
         let state = State {

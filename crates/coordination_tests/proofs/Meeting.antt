@@ -248,7 +248,7 @@ quiet_3 race is = by_trace ((races_agree board steps 3 race).0 is)
     by_trace (Apart early late trace s apart shown_as) = first_apart board steps 3 before_3 early late trace s apart
     by_trace (StillWaits lowering d m line named s event leaves other after names shown_as) = clash true refl (ap is_waiting (sym after) ∙ nobody_waits d)
     by_trace (Differ g h m line other_line x named other_named g_in h_in from_g from_h names differ shown_as) = no_differ g h m line other_line x named other_named (mates g g_in) (mates h h_in) from_g from_h names differ
-    by_trace (StillAsks g d x line axes g_in took other after names shown_as) = took_none g x (mates g g_in) took
+    by_trace (StillAsks g d x line from_standing axes g_in took other after names shown_as) = took_none g x (mates g g_in) took
 
 quiet_steps : (i : ℕ) → i < 6 → HasNoRaceAt board steps i
 quiet_steps zero below = nothing_so_far board steps 0 before_0 leaves_0

@@ -112,7 +112,7 @@ still b moves i q apart race (Apart early late trace at there shown_as) = apart 
 still b moves i q apart race (StillWaits lowering d m line named at event leaves other after names shown_as) =
     clash _ leaves (leaves_none (happening_at b moves lowering.step) (subst (λ (j : ℕ). LeavesNothing (happening_at b moves j)) (sym at) q) lowering.channel lowering.go (Lowered lowering.channel m))
 still b moves i q apart race (Differ g h m line other_line x named other_named g_in h_in from_g from_h names differ shown_as) = nobody_in (happening_at b moves i) q g g_in
-still b moves i q apart race (StillAsks g d x line axes g_in took other after names shown_as) = nobody_in (happening_at b moves i) q g g_in
+still b moves i q apart race (StillAsks g d x line from_standing axes g_in took other after names shown_as) = nobody_in (happening_at b moves i) q g g_in
 
 pub nothing_so_far : (b : Board) (moves : List Move) (i : ℕ) → NothingBefore b moves i → LeavesNothing (happening_at b moves i) → HasNoRaceAt b moves i
 nothing_so_far b moves i before here race is = still b moves i here (first_apart b moves i before) race ((races_agree b moves i race).0 is)

@@ -45,13 +45,13 @@ pub(crate) static REFUSALS: [Row; 40] = [
     (
         5,
         "number out of range",
-        "A number, a name of an axis, a slot, a G word, an owner, a holder, a carrier or a length is not of its form or not in its range; or the low end of a zone is above its high end.",
+        "A number, a name of an axis, a slot, a G word, an owner, a holder, a carrier, a tool, an edge or a length is not of its form or not in its range; or the low end of a zone is above its high end.",
         "Correct the value. Whole numbers have no leading zero and no sign; lengths have a digit before the point. Look at docs/refusals.md, Slips in job lines.",
     ),
     (
         6,
         "declared twice",
-        "A channel, an axis, a zone, a slot, an axis in the slots of one channel, an offset, an option or the job line stands a second time; or an axis carries two directions of one zone.",
+        "A channel, an axis, a zone, a slot, an axis in the slots of one channel, an offset, an edge of a tool, an option or the job line stands a second time; or an axis carries two directions of one zone.",
         "Delete the line that is wrong. The first of the two may be the mistake.",
     ),
     (
@@ -244,7 +244,7 @@ pub(crate) static REFUSALS: [Row; 40] = [
 ];
 
 /// The alarms. Where the cause says what to do there is no advice.
-pub(crate) static ALARMS: [Row; 33] = [
+pub(crate) static ALARMS: [Row; 35] = [
     (
         1,
         "number too large",
@@ -336,6 +336,12 @@ pub(crate) static ALARMS: [Row; 33] = [
         "Leave one of the two.",
     ),
     (
+        34,
+        "no such tool",
+        "The channel has TOOL lines. T has a text, or a value that is neither 0 nor the number of a tool that one of them gives; or D has a text, or a value that is neither 0 nor an edge of the tool that is active then. In a channel without TOOL lines it never comes.",
+        "Give each edge that the programs select a TOOL line, with the lengths of the tool list of your control. A tool with a name in the place of a number needs a number in the copy.",
+    ),
+    (
         11,
         "scale not allowed",
         "The value of a SCALE or ASCALE word is no positive multiple of 0.001 or is above 1000; or the factor of all the frame's factors together has more than six decimals or is above 1000.",
@@ -388,6 +394,12 @@ pub(crate) static ALARMS: [Row; 33] = [
         "radius too small",
         "The start or the end is the centre. Or the radius is 0 when it is rounded, or its circle does not reach from the start to the end: the distance is above twice the radius and 10 micrometres.",
         "Give the radius of the drawing. The distance between start and end is at most twice that.",
+    ),
+    (
+        35,
+        "tool plane",
+        "A block moves an axis under G17 or G19 while a length of the active edge is not 0. It comes directly before 23.",
+        "Write G18, or D0 before the block: a TOOL line has the lengths along X and Z of a turning tool, and a control takes others in another plane.",
     ),
     (
         23,

@@ -109,6 +109,10 @@ standing_rows c axis None = []
 
 -- ---- tools
 
+-- the job has a TOOL line for a channel
+unfoldable pub has_tools : JobView → ℕ → Bool
+has_tools job c = list_any (λ tools. tools.0 == c) job.tools
+
 -- so many blocks have a T word, and so many a D word
 abbrev pub tool_rows : ℕ → ℕ → List Assumed
 tool_rows c count = if count == 0 then [] else assumed c (Tools count)
@@ -128,16 +132,18 @@ parameter_rows c remarks = flat_map (λ number. zero_rows c number (first_with p
 unfoldable pub position_rows : List (Option Mover) → ℕ → List Assumed
 position_rows firsts c = flat_map (λ axis. standing_rows c axis (slice_index_or firsts axis None)) (range_with_len 0 AXIS_LIMIT)
 
-abbrev pub count_rows : ℕ → List Remark → List Assumed
-count_rows c remarks = tool_rows c (count_by is_of_tool remarks) ++ tool_offset_rows c (count_by is_of_tool_offset remarks)
+-- both move nothing where the channel has no TOOL line
+abbrev pub count_rows : JobView → ℕ → List Remark → List Assumed
+count_rows job c remarks =
+    if has_tools job c then [] else tool_rows c (count_by is_of_tool remarks) ++ tool_offset_rows c (count_by is_of_tool_offset remarks)
 
 -- what is taken for granted by what the blocks of a channel say, and by what moves
 unfoldable pub said_rows : JobView → ℕ → List Remark → List Assumed
 said_rows job c remarks = radius_rows job c remarks ++ (offset_rows job c remarks ++ parameter_rows c remarks)
 
-unfoldable pub done_rows : List (Option Mover) → ℕ → List Remark → List Assumed
-done_rows firsts c remarks = position_rows firsts c ++ count_rows c remarks
+unfoldable pub done_rows : JobView → List (Option Mover) → ℕ → List Remark → List Assumed
+done_rows job firsts c remarks = position_rows firsts c ++ count_rows job c remarks
 
 -- what is taken for granted of a channel on which these are the remarks
 abbrev pub rows_of : JobView → RunView → ℕ → List Remark → List Assumed
-rows_of job run c remarks = said_rows job c remarks ++ done_rows (movers_of run) c remarks
+rows_of job run c remarks = said_rows job c remarks ++ done_rows job (movers_of run) c remarks

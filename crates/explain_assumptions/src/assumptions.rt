@@ -73,7 +73,7 @@ pub fn assumptions_of(alloc: Global, job: &Job, run: &Run) -> Result<Vec<Assumed
         let list = remarks_in(alloc, job, run, channel)?;
         let remarks = list.as_slice();
         add_said(alloc, job, channel, remarks, &mut rows)?;
-        add_done(movers, channel, remarks, &mut rows)?;
+        add_done(job, movers, channel, remarks, &mut rows)?;
     }
     Ok(rows)
 }

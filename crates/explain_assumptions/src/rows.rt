@@ -34,9 +34,9 @@ pub enum Assumption {
     Zero(u16, u32),
     /// The axis stands where its AXIS line puts it up to the block on this line, which is the first of the run that moves it.
     Standing(AxisId, u32),
-    /// So many executed blocks have T words, which move nothing.
+    /// So many executed blocks have T words, which move nothing, since the job has no TOOL line for the channel.
     Tools(usize),
-    /// So many executed blocks have D words, which move nothing.
+    /// So many executed blocks have D words, which move nothing for that reason too.
     ToolOffsets(usize),
 }
 
@@ -299,14 +299,26 @@ fn add_tool_offsets(
     }
 }
 
-/// Adds how many blocks have words that move nothing.
+/// Whether the job has a TOOL line for a channel.
+#[tactic(auto, unfolding(crate::specs::Rows::has_tools))]
+fn has_tools(job: &Job, channel: ChannelId) -> bool
+    ensures { result ≡ model.has_tools job.now channel }
+{
+    job.tools.iter().any(|tools| tools.0 == channel)
+}
+
+/// Adds how many blocks have words that move nothing, where the job has no TOOL line for the channel.
 fn add_counts(
+    job: &Job,
     channel: ChannelId,
     remarks: &[Remark],
     rows: &mut Vec<Assumed>,
 ) -> Result<(), AllocError>
-    ensures { OnOk result (rows.new.items ≡ rows.old.items ++ model.count_rows channel remarks.now) }
+    ensures { OnOk result (rows.new.items ≡ rows.old.items ++ model.count_rows job.now channel remarks.now) }
 {
+    if has_tools(job, channel) {
+        return Ok(());
+    }
     add_tools(channel, tool_count(remarks), rows)?;
     add_tool_offsets(channel, tool_offset_count(remarks), rows)
 }
@@ -331,14 +343,15 @@ pub(crate) fn add_said(
 /// Adds what is taken for granted by what moves, where these move the axes first, and by words that move nothing.
 #[tactic(auto, unfolding(crate::specs::Rows::done_rows))]
 pub(crate) fn add_done(
+    job: &Job,
     firsts: &[Option<Mover>],
     channel: ChannelId,
     remarks: &[Remark],
     rows: &mut Vec<Assumed>,
 ) -> Result<(), NoMemory>
-    ensures { OnOk result (rows.new.items ≡ rows.old.items ++ model.done_rows firsts.now channel remarks.now) }
+    ensures { OnOk result (rows.new.items ≡ rows.old.items ++ model.done_rows job.now firsts.now channel remarks.now) }
 {
     add_positions(firsts, channel, rows)?;
-    add_counts(channel, remarks, rows)?;
+    add_counts(job, channel, remarks, rows)?;
     Ok(())
 }

@@ -53,4 +53,4 @@ lacked_axis b own axes axis = axis_where (among axes axis) own axis (owner_of (b
 unfoldable pub lacks_of : JobView → RunView → Board → ℕ → Hold → List Lack
 lacks_of job run b own (AtMarks mark named) = flat_map (λ channel. option_to_list (lacked_mark b mark named channel)) channel_numbers
 lacks_of job run b own (AtEnds named) = flat_map (λ channel. option_to_list (lacked_end job run own named channel)) channel_numbers
-lacks_of job run b own (AtAxes axes) = flat_map (λ axis. option_to_list (lacked_axis b own axes axis)) axis_numbers
+lacks_of job run b own (AtAxes from_standing axes) = flat_map (λ axis. option_to_list (lacked_axis b own axes axis)) axis_numbers

@@ -21,7 +21,7 @@ mark_numbers = range_with_len 0 MARK_LIMIT
 abbrev pub is_of_marks : ℕ → Hold → Bool
 is_of_marks mark (AtMarks number named) = number == mark
 is_of_marks mark (AtEnds named) = false
-is_of_marks mark (AtAxes axes) = false
+is_of_marks mark (AtAxes from_standing axes) = false
 
 abbrev pub is_for : ℕ → Option (Hold × ℕ) → Bool
 is_for mark (Some wait) = is_of_marks mark wait.0

@@ -78,7 +78,7 @@ some_lack_text input job run (Some lack) = lack_text input job run lack
 unfoldable pub hold_text : List ℕ → JobView → RunView → Board → ℕ → Hold → List ℕ
 hold_text input job run b own (AtMarks mark named) = flat_map (λ channel. some_lack_text input job run (lacked_mark b mark named channel)) channel_numbers
 hold_text input job run b own (AtEnds named) = flat_map (λ channel. some_lack_text input job run (lacked_end job run own named channel)) channel_numbers
-hold_text input job run b own (AtAxes axes) = flat_map (λ axis. some_lack_text input job run (lacked_axis b own axes axis)) axis_numbers
+hold_text input job run b own (AtAxes from_standing axes) = flat_map (λ axis. some_lack_text input job run (lacked_axis b own axes axis)) axis_numbers
 
 -- where a channel waits
 unfoldable pub head_text : List ℕ → JobView → ℕ → ℕ → List ℕ

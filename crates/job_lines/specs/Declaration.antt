@@ -9,12 +9,14 @@ use Rattle.job_lines.specs.declared.declaration.AxisName.{AxisName}
 use Rattle.job_lines.specs.declared.declaration.NamedSide.{NamedSide}
 use Rattle.job_lines.specs.declared.declaration.ZoneHead.{ZoneHead}
 use Rattle.job_lines.specs.declared.declaration.Declaration.{Declaration}
-use Rattle.job_lines.specs.declared.declaration.Declaration.TheVariants.{Channel, Axis, Geo, Offset, Zone}
+use Rattle.job_lines.specs.declared.declaration.Declaration.TheVariants.{Channel, Axis, Geo, Offset, Zone, Tool}
 use Rattle.nc_expressions.specs.NameTexts.{name_of}
 use Rattle.job_lines.specs.Code.{◌>>=◌, or_code}
 use Rattle.job_lines.specs.Numbers.{number_within}
 use Rattle.job_lines.specs.Length.{length_of}
 use Rattle.job_lines.specs.OptionLines.{option_declaration_of}
+use Rattle.job_lines.specs.ToolLines.{given_edge_of}
+use Rattle.job_lines.specs.declared.tool_lines.GivenEdge.{GivenEdge}
 use Rattle.axis_sets.specs.declared.limits.TheConstants.{ZONE_LIMIT}
 
 -- a channel, up to the greatest
@@ -153,6 +155,17 @@ zone_line greatest (zone ∷ group ∷ holder ∷ state ∷ cx ∷ lx ∷ hx ∷
     zone_declaration_of (zone_head_of greatest zone group holder state) (named_side_of cx lx hx) (named_side_of cy ly hy) (named_side_of cz lz hz)
 zone_line greatest args = Err UnknownJobLine
 
+-- an edge of a tool of a channel
+unfoldable pub tool_declaration_of : Result ℕ Code → Result GivenEdge Code → Result Declaration Code
+tool_declaration_of channel edge = do
+  channel ← channel
+  edge ← edge
+  Ok (Tool channel edge)
+
+unfoldable pub tool_line : ℕ → List (List ℕ) → Result Declaration Code
+tool_line greatest (channel ∷ tool ∷ edge ∷ x ∷ z ∷ []) = tool_declaration_of (channel_of greatest channel) (given_edge_of tool edge x z)
+tool_line greatest args = Err UnknownJobLine
+
 -- a second job line
 unfoldable pub job_line : List (List ℕ) → Result Declaration Code
 job_line (version ∷ []) = Err DeclaredTwice
@@ -166,5 +179,6 @@ declaration_of greatest kind args =
     else if bytes_eq kind (codes "GEO") then geo_line greatest args
     else if bytes_eq kind (codes "OFFSET") then offset_line greatest args
     else if bytes_eq kind (codes "ZONE") then zone_line greatest args
+    else if bytes_eq kind (codes "TOOL") then tool_line greatest args
     else if bytes_eq kind (codes "JOB") then job_line args
     else option_declaration_of kind args

@@ -5,3 +5,4 @@ pub mod Extent
 pub mod Length
 pub mod Numbers
 pub mod OptionLines
+pub mod ToolLines

@@ -1,11 +1,12 @@
 //! Job lines, each read by itself.
 ghost use Rattle.std.specs.Prelude.{◌≡◌, map};
-ghost use Rattle.job_lines.specs.Declaration.{channel_of, zone_of, axis_name_of, owner_of, slot_of, g_of, carrier_of, named_side_of, channel_declaration_of, starting_declaration_of, channel_line, axis_declaration_of, axis_line, geo_declaration_of, geo_line, offset_declaration_of, offset_line, state_of, zone_head_of, zone_declaration_of, zone_line, job_line, declaration_of};
+ghost use Rattle.job_lines.specs.Declaration.{channel_of, zone_of, axis_name_of, owner_of, slot_of, g_of, carrier_of, named_side_of, channel_declaration_of, starting_declaration_of, channel_line, axis_declaration_of, axis_line, geo_declaration_of, geo_line, offset_declaration_of, offset_line, state_of, zone_head_of, zone_declaration_of, zone_line, tool_declaration_of, tool_line, job_line, declaration_of};
 
 use crate::code::Code;
 use crate::length::length_in;
 use crate::numbers::{number_within, small_within};
 use crate::option_lines::option_declaration_in;
+use crate::tool_lines::{GivenEdge, given_edge_in};
 use axis_sets::{ChannelId, ZONE_LIMIT, ZoneId};
 use micro_units::Um;
 use nc_blocks::NameText;
@@ -105,6 +106,13 @@ pub enum Declaration {
     },
     /// A zone.
     Zone(NamedZone),
+    /// An edge of a tool of a channel.
+    Tool {
+        /// The channel.
+        channel: ChannelId,
+        /// The edge, with its lengths.
+        edge: GivenEdge,
+    },
     /// The margin of all zones, 0 to 1,000 millimetres.
     Margin(Um),
     /// The depth of comparison, 0 to 4.
@@ -475,6 +483,34 @@ fn zone_line_in(greatest: ChannelId, args: &[&[u8]]) -> Result<Declaration, Code
     }
 }
 
+/// An edge of a tool of a channel, or the first code of the two.
+#[tactic(auto, unfolding(crate::specs::Declaration::tool_declaration_of))]
+fn tool_declaration_in(
+    channel: Result<ChannelId, Code>,
+    edge: Result<GivenEdge, Code>,
+) -> Result<Declaration, Code>
+    ensures { result ≡ tool_declaration_of channel edge }
+{
+    let channel = channel?;
+    let edge = edge?;
+    Ok(Declaration::Tool { channel, edge })
+}
+
+/// What follows TOOL.
+#[tactic(auto, unfolding(crate::specs::Declaration::tool_line))]
+fn tool_line_in(greatest: ChannelId, args: &[&[u8]]) -> Result<Declaration, Code>
+    ensures { result ≡ tool_line greatest (map (λ word. word.now) args.now) }
+{
+    match args {
+        [channel, tool, edge, x, z] => {
+            let channel = channel_in(greatest, channel);
+            let edge = given_edge_in(tool, edge, x, z);
+            tool_declaration_in(channel, edge)
+        }
+        _ => Err(Code::UnknownJobLine),
+    }
+}
+
 /// What follows JOB after the first job line.
 #[tactic(auto, unfolding(crate::specs::Declaration::job_line))]
 fn job_line_in(args: &[&[u8]]) -> Result<Declaration, Code>
@@ -503,6 +539,8 @@ pub fn declaration_in(greatest: ChannelId, kind: &[u8], args: &[&[u8]]) -> Resul
         offset_line_in(greatest, args)
     } else if kind == b"ZONE".as_slice() {
         zone_line_in(greatest, args)
+    } else if kind == b"TOOL".as_slice() {
+        tool_line_in(greatest, args)
     } else if kind == b"JOB".as_slice() {
         job_line_in(args)
     } else {

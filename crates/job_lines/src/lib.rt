@@ -9,6 +9,7 @@ mod length;
 mod limits;
 mod numbers;
 mod option_lines;
+mod tool_lines;
 
 pub use code::Code;
 pub use declaration::{AxisName, Declaration, NamedSide, NamedZone, ZoneHead, declaration_in};
@@ -16,4 +17,7 @@ pub use extent::{
     Extent, FIRST_VERSION, FIRST_VERSION_AXES, FIRST_VERSION_CHANNELS, FIRST_VERSION_MARKS,
 };
 pub use header::header_in;
-pub use limits::{BUDGET_LIMIT, DEPTH_LIMIT, INPUT_LIMIT, MARGIN_LIMIT, PROGRAM_LIMIT};
+pub use limits::{
+    BUDGET_LIMIT, DEPTH_LIMIT, EDGE_LIMIT, INPUT_LIMIT, MARGIN_LIMIT, PROGRAM_LIMIT, TOOL_LIMIT,
+};
+pub use tool_lines::GivenEdge;

@@ -14,3 +14,9 @@ pub const DEPTH_LIMIT: u8 = 4;
 
 /// The greatest budget. The least is 1.
 pub const BUDGET_LIMIT: u32 = 100_000_000;
+
+/// The greatest number of a tool.
+pub const TOOL_LIMIT: u16 = 9_999;
+
+/// The greatest number of an edge of a tool.
+pub const EDGE_LIMIT: u8 = 9;

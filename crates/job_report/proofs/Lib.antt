@@ -1,3 +1,4 @@
 pub mod PageLemmas
 pub mod RowLemmas
+pub mod SpanLemmas
 pub mod TextLengths

@@ -6,3 +6,4 @@ pub mod Verdicts
 pub mod Report
 pub mod Summary
 pub mod Pages
+pub mod Spans

@@ -7,12 +7,14 @@ ghost use Rattle.job_report.specs.Actions.{step_line};
 ghost use Rattle.job_report.specs.Channels as model;
 ghost use Rattle.job_report.specs.Motions.{item_line};
 ghost use Rattle.job_report.specs.Pages.{Puts, stage};
+ghost use Rattle.job_report.specs.Spans.{AreSpans};
 ghost use Rattle.fault_codes.specs.Codes.{IsAlarmCode};
 ghost use Rattle.nc_faults.specs.Texts.{alarm_text_of};
 
 use crate::actions::push_step_line;
 use crate::motions::push_item_line;
 use crate::page::{LINE_ROOM, PAGE_ROOM, Page, TEXT_ROOM, begin_line};
+use crate::spans::StepSpans;
 use axis_sets::ChannelId;
 use edge_io::{Failed, Sink};
 use fault_codes::Alarm;
@@ -185,13 +187,15 @@ fn put_state<K: Sink>(page: &mut Page, sink: &mut K, end: &ChannelEnd) -> Result
     Ok(())
 }
 
-/// A run, and the job whose run it is.
+/// A run, the job whose run it is, and where the steps of its channels stand.
 #[derive(Clone, Copy)]
 pub(crate) struct JobRun<'a> {
     /// The job.
     pub(crate) job: &'a Job,
     /// The run.
     pub(crate) run: &'a Run,
+    /// Between which places of the run the steps of each channel stand.
+    pub(crate) spans: &'a StepSpans,
 }
 
 impl<'a> JobRun<'a> {
@@ -229,6 +233,7 @@ impl<'a> JobRun<'a> {
         channel: ChannelId,
         silent: Option<usize>,
     ) -> Result<(), Failed>
+        requires spans { AreSpans self.now.run.now.entries self.now.spans.now }
         requires few { K.faults sink.old < 2 ^ 64 - 1 }
         ensures text { Puts (stage (K.written sink.old) (K.count sink.old) page.old)
             (stage (K.written sink.new) (K.count sink.new) page.new) result
@@ -236,7 +241,10 @@ impl<'a> JobRun<'a> {
         ensures cause { HasCause (K.faults sink.old) (K.faults sink.new) result }
     {
         let run = self.run;
-        for (place, entry) in run.entries.iter().enumerate() {
+        let entries: &[Entry] = &run.entries;
+        let (first, end) = self.spans.span_of(channel);
+        for place in first..end {
+            let entry = &entries[place];
             if entry.is_of(channel) {
                 self.put_entry(page, sink, silent, (place, entry))?;
             }
@@ -253,6 +261,7 @@ impl<'a> JobRun<'a> {
         channel: ChannelId,
         end: &ChannelEnd,
     ) -> Result<(), Failed>
+        requires spans { AreSpans self.now.run.now.entries self.now.spans.now }
         requires listed { model.IsListedEnd end.now }
         requires few { K.faults sink.old < 2 ^ 64 - 1 }
         ensures text { Puts (stage (K.written sink.old) (K.count sink.old) page.old)

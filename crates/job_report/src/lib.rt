@@ -16,6 +16,7 @@ mod lines;
 mod motions;
 mod page;
 mod positions;
+mod spans;
 mod summaries;
 mod verdicts;
 

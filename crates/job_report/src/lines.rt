@@ -4,12 +4,14 @@ ghost use Rattle.edge_io.specs.Moves.{HasCause};
 ghost use Rattle.job_report.specs.Channels.{IsListedEnd, channels_of};
 ghost use Rattle.job_report.specs.Pages.{Puts, stage};
 ghost use Rattle.job_report.specs.Report as model;
+ghost use Rattle.job_report.specs.Spans.{AreSpans};
 ghost use Rattle.job_report.specs.Verdicts.{verdict_line};
 ghost use Rattle.fault_codes.specs.Codes.{IsRefusalCode};
 ghost use Rattle.nc_faults.specs.Texts.{refusal_text_of};
 
 use crate::channels::JobRun;
 use crate::page::{LINE_ROOM, PAGE_ROOM, Page, TEXT_ROOM, begin_line, flush};
+use crate::spans::StepSpans;
 use crate::verdicts::push_verdict_line;
 use arrayvec::ArrayVec;
 use axis_sets::{CHANNEL_LIMIT, ChannelId};
@@ -44,6 +46,7 @@ impl<'a> JobRun<'a> {
         place: usize,
         channel: ChannelId,
     ) -> Result<(), Failed>
+        requires spans { AreSpans self.now.run.now.entries self.now.spans.now }
         requires listed { All IsListedEnd self.now.run.now.ends }
         requires few { K.faults sink.old < 2 ^ 64 - 1 }
         ensures text { Puts (stage (K.written sink.old) (K.count sink.old) page.old)
@@ -61,6 +64,7 @@ impl<'a> JobRun<'a> {
     /// Puts the lines of all channels.
     #[tactic(auto, unfolding(crate::specs::Report::all_lines))]
     fn put_channels<K: Sink>(&self, page: &mut Page, sink: &mut K) -> Result<(), Failed>
+        requires spans { AreSpans self.now.run.now.entries self.now.spans.now }
         requires listed { All IsListedEnd self.now.run.now.ends }
         requires few { K.faults sink.old < 2 ^ 64 - 1 }
         ensures text { Puts (stage (K.written sink.old) (K.count sink.old) page.old)
@@ -128,7 +132,13 @@ pub(crate) fn write_report<K: Sink>(
     ensures empty { OnOk result (page.new ≡ []) }
 {
     push_head(page, job.compensation);
-    JobRun { job, run }.put_channels(page, sink)?;
+    let spans = StepSpans::of(&run.entries);
+    JobRun {
+        job,
+        run,
+        spans: &spans,
+    }
+    .put_channels(page, sink)?;
     put_verdict(page, sink, verdict)?;
     flush(page, sink)
 }

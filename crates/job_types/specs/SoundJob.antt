@@ -1,5 +1,5 @@
 -- Law. What holds of every accepted job.
-use Rattle.std.specs.Prelude.{◌≡◌, ◌≢◌, ◌⊎◌, ℕ, ◌<◌, ◌≤◌, ℤ, pos, ◌≤ℤ◌, true, length, Option, IfSome, IsSome}
+use Rattle.std.specs.Prelude.{◌≡◌, ◌≢◌, ◌⊎◌, ℕ, ◌<◌, ◌≤◌, ℤ, pos, ◌≤ℤ◌, true, List, length, Option, IfSome, IsSome}
 use Rattle.std.specs.List.{All, Any, AllPairs}
 use Rattle.nc_blocks.specs.Indices.{StatementFits}
 use Rattle.nc_control_flow.specs.Nested.{IsNested}
@@ -11,8 +11,10 @@ use Rattle.job_types.specs.declared.job.ZoneLine.{ZoneLine}
 use Rattle.job_types.specs.Axes.{first_owner}
 use Rattle.job_types.specs.Job.{JobView, names_of}
 use Rattle.axis_sets.specs.declared.limits.TheConstants.{AXIS_LIMIT, CHANNEL_LIMIT, ZONE_LIMIT}
-use Rattle.job_lines.specs.declared.limits.TheConstants.{BUDGET_LIMIT, DEPTH_LIMIT, MARGIN_LIMIT, PROGRAM_LIMIT}
+use Rattle.job_lines.specs.declared.limits.TheConstants.{BUDGET_LIMIT, DEPTH_LIMIT, EDGE_LIMIT, MARGIN_LIMIT, PROGRAM_LIMIT, TOOL_LIMIT}
 use Rattle.micro_units.specs.Position.{IsPosition}
+use Rattle.tool_offsets.specs.Tools.{AreSound}
+use Rattle.tool_offsets.specs.declared.tools.ToolEdge.{ToolEdge}
 
 -- the channel has a CHANNEL line
 abbrev pub IsDeclared : JobView → ℕ → Type 0
@@ -66,6 +68,20 @@ pub record IsSoundZone (job : JobView) (zone : ZoneLine) : Type 0 where
   pub carriers : AllPairs HaveOtherCarriers zone.sides
   pub ranges : All (λ side. IsSoundRange side.lo side.hi) zone.sides
 
+-- an edge of a tool whose numbers are in their ranges, and whose lengths are positions
+pub record IsSoundEdge (line : ToolEdge) : Type 0 where
+  pub tool : line.tool ≤ TOOL_LIMIT
+  pub edge : line.edge ≤ EDGE_LIMIT
+  pub x : IsPosition line.lengths.x
+  pub z : IsPosition line.lengths.z
+
+-- the tools of a declared channel: they have an edge, each tool and edge is given once, and neither is numbered 0
+pub record AreSoundTools (job : JobView) (tools : ℕ × List ToolEdge) : Type 0 where
+  pub declared : IsDeclared job tools.0
+  pub some : 0 < length tools.1
+  pub once : AreSound tools.1
+  pub edges : All IsSoundEdge tools.1
+
 -- 0 to 1,000 millimetres
 abbrev pub IsSoundMargin : ℤ → Type 0
 IsSoundMargin margin = (pos 0 ≤ℤ margin) × (margin ≤ℤ MARGIN_LIMIT)
@@ -90,6 +106,8 @@ pub record IsSoundJob (job : JobView) : Type 0 where
   pub margin : IsSoundMargin job.margin
   pub depth : job.depth ≤ DEPTH_LIMIT
   pub budget : (1 ≤ job.budget) × (job.budget ≤ BUDGET_LIMIT)
+  pub tool_channels : AllPairs (λ tools other. tools.0 < other.0) job.tools
+  pub tools : All (AreSoundTools job) job.tools
   pub few_programs : length job.programs ≤ PROGRAM_LIMIT
   pub program_names : AllPairs (λ program other. program.0 ≢ other.0) job.programs
   pub programs : All (λ program. IsNested program.1.blocks) job.programs

@@ -18,7 +18,7 @@ use Rattle.tape_job.specs.Read as reads
 use Rattle.tape_job.specs.Reading as readings
 use Rattle.tape_job.specs.Rules as rule
 use Rattle.tape_job.specs.Steps as steps
-use Rattle.tape_job.specs.Told.{Told, accept_compensation, facts_of}
+use Rattle.tape_job.specs.Told.{Told, accept_compensation, by_channel, facts_of}
 use Rattle.sample_laws.proofs.Taken.{IsJobFrom, IsTaken, taken_goes, channels, axes, slots, zones, told_at, first_program}
 
 -- these lines are told, and no option
@@ -47,7 +47,7 @@ unfolding says_open reads.trial reads.end_of_program reads.line_trial rule.rule_
 tells_open = tt
 
 line_1 : IsTaken (facts_of []) 1 (codes "JOB 1") (listed [] [] [] [])
-unfolding tells_open facts_of accept_compensation
+unfolding tells_open facts_of accept_compensation by_channel
 line_1 = record { lacks = refl; taken = refl; tells = refl }
 
 line_2 : IsTaken (listed [] [] [] []) 2 (codes "CHANNEL 1 S1 START") (listed (take 1 channels) [] [] [])

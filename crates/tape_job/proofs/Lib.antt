@@ -1,4 +1,6 @@
 pub mod BareLines
+pub mod EdgeKeys
+pub mod EdgePlaces
 pub mod FirstRefusalLemmas
 pub mod FitLemmas
 pub mod InputLemmas
@@ -13,4 +15,6 @@ pub mod SoundJobs
 pub mod SoundLists
 pub mod SoundPrograms
 pub mod SoundReadings
+pub mod SoundTools
 pub mod TellingLemmas
+pub mod ToolChannels

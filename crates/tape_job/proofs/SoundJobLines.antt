@@ -24,8 +24,15 @@ use Rattle.tape_job.specs.Draft.{nothing_told}
 use Rattle.job_types.specs.Job.{JobView, ProgramView}
 use Rattle.tape_job.specs.Rules as rule
 use Rattle.micro_units.specs.Position.{IsPosition}
-use Rattle.job_types.specs.SoundJob.{IsDeclared, HaveOtherNames, HaveOtherSlots, HaveOtherPlaces, IsSettable, IsSoundOffset, IsCarriedBy, HaveOtherCarriers, IsSoundRange, IsSoundZone, IsSoundMargin}
+use Rattle.job_types.specs.SoundJob.{IsDeclared, HaveOtherNames, HaveOtherSlots, HaveOtherPlaces, IsSettable, IsSoundOffset, IsCarriedBy, HaveOtherCarriers, IsSoundRange, IsSoundZone, IsSoundEdge, AreSoundTools, IsSoundMargin}
 use Rattle.tape_job.proofs.LineLemmas.{place}
+use Rattle.tool_offsets.specs.Tools.{has_edge}
+use Rattle.tool_offsets.specs.declared.tools.ToolEdge.{ToolEdge}
+use Rattle.tape_job.specs.Steps.{with_edge}
+use Rattle.job_lines.specs.declared.tool_lines.GivenEdge.{GivenEdge}
+use Rattle.tape_job.specs.Told.{tool_edge}
+use Rattle.tape_job.proofs.SoundReadings.{IsEdge, IsGivenEdge}
+use Rattle.tape_job.proofs.SoundTools.{IsBefore, all_with, ascends_with, sound_push, sound_none}
 use Rattle.tape_job.proofs.SoundLists.{unbroken, not_false, or_fails, and_holds, differs, none_pass, Any-more, found, slice_get-more}
 use Rattle.job_types.specs.Axes.{axis_at, first_owner}
 
@@ -51,10 +58,11 @@ pub record OptionFacts (margin : ℤ) (depth budget : ℕ) : Type 0 where
   pub sound_budget : (1 ≤ budget) × (budget ≤ 100000000)
 
 -- what holds of lines that name channels and axes of the job
-pub record Linked (job : JobView) (axis_lines : List AxisLine) (offset_lines : List OffsetLine) (zone_lines : List ZoneLine) : Type 0 where
+pub record Linked (job : JobView) (axis_lines : List AxisLine) (offset_lines : List OffsetLine) (zone_lines : List ZoneLine) (tool_lines : List (ℕ × List ToolEdge)) : Type 0 where
   pub owners : All (λ line. IfSome line.owner (IsDeclared job)) axis_lines
   pub offsets : All (IsSoundOffset job) offset_lines
   pub zones : All (IsSoundZone job) zone_lines
+  pub tools : All (AreSoundTools job) tool_lines
 
 pub record ListFacts (job : JobView) : Type 0 where
   pub channels : ChannelFacts job.channels
@@ -63,7 +71,8 @@ pub record ListFacts (job : JobView) : Type 0 where
   pub places : AllPairs HaveOtherPlaces job.offsets
   pub numbers : AllPairs (λ zone other. zone.zone ≢ other.zone) job.zones
   pub options : OptionFacts job.margin job.depth job.budget
-  pub linked : Linked job job.axes job.offsets job.zones
+  pub ascend : AllPairs IsBefore job.tools
+  pub linked : Linked job job.axes job.offsets job.zones job.tools
 
 -- what is declared stays declared
 record Extends (old new : JobView) : Type 0 where
@@ -100,13 +109,22 @@ offset_extends old new extends line sound = record {
   by = sound.by;
 }
 
-linked_extends : (old new : JobView) → Extends old new → (axes : List AxisLine) (offsets : List OffsetLine) (zones : List ZoneLine)
-    → Linked old axes offsets zones → Linked new axes offsets zones
-linked_extends old new extends axes offsets zones linked = record {
+tools_extend : (old new : JobView) → Extends old new → (one : ℕ × List ToolEdge) → AreSoundTools old one → AreSoundTools new one
+tools_extend old new extends one sound = record {
+  declared = extends.declared one.0 sound.declared;
+  some = sound.some;
+  once = sound.once;
+  edges = sound.edges;
+}
+
+linked_extends : (old new : JobView) → Extends old new → (axes : List AxisLine) (offsets : List OffsetLine) (zones : List ZoneLine) (tools : List (ℕ × List ToolEdge))
+    → Linked old axes offsets zones tools → Linked new axes offsets zones tools
+linked_extends old new extends axes offsets zones tools linked = record {
   owners = All-weaker (λ (l : AxisLine). IfSome l.owner (IsDeclared old)) (λ (l : AxisLine). IfSome l.owner (IsDeclared new))
       (λ l. held_extends old new extends l.owner) axes linked.owners;
   offsets = All-weaker (IsSoundOffset old) (IsSoundOffset new) (offset_extends old new extends) offsets linked.offsets;
   zones = All-weaker (IsSoundZone old) (IsSoundZone new) (zone_extends old new extends) zones linked.zones;
+  tools = All-weaker (AreSoundTools old) (AreSoundTools new) (tools_extend old new extends) tools linked.tools;
 }
 
 -- the owner of an axis
@@ -173,7 +191,8 @@ channel_told job number channel program starts facts none sound =
       places = facts.places;
       numbers = facts.numbers;
       options = facts.options;
-      linked = linked_extends job new (channel_extends job line) job.axes job.offsets job.zones facts.linked;
+      ascend = facts.ascend;
+      linked = linked_extends job new (channel_extends job line) job.axes job.offsets job.zones job.tools facts.linked;
     }
 
 -- an AXIS line
@@ -226,7 +245,7 @@ axis_told job number name owner at facts none near =
     let third = unbroken (nat_le (extent_of job.version).axes (length job.axes)) TooMany None second.1 in
     let few : length job.axes < AXIS_LIMIT = below_widest (length job.axes) (extent_of job.version).axes third.0 (few_axes job.version) in
     let further : length (job.axes ++ line ∷ []) ≡ length job.axes + 1 = length-append job.axes (line ∷ []) in
-    let linked : Linked new job.axes job.offsets job.zones = linked_extends job new extends job.axes job.offsets job.zones facts.linked in
+    let linked : Linked new job.axes job.offsets job.zones job.tools = linked_extends job new extends job.axes job.offsets job.zones job.tools facts.linked in
     record {
       channels = facts.channels;
       axes = record {
@@ -241,11 +260,13 @@ axis_told job number name owner at facts none near =
       places = facts.places;
       numbers = facts.numbers;
       options = facts.options;
+      ascend = facts.ascend;
       linked = record {
         owners = All-push (λ (l : AxisLine). IfSome l.owner (IsDeclared new)) job.axes line linked.owners
             (held_extends job new extends owner (owner_declared job owner (not_false (rule.has_owner job owner) first.0)));
         offsets = linked.offsets;
         zones = linked.zones;
+        tools = linked.tools;
       };
     }
 
@@ -307,7 +328,8 @@ geo_told job number channel slot axis facts none within =
       places = facts.places;
       numbers = facts.numbers;
       options = facts.options;
-      linked = linked_extends job (with_geo job line) (lines_extend job (with_geo job line) refl refl) job.axes job.offsets job.zones facts.linked;
+      ascend = facts.ascend;
+      linked = linked_extends job (with_geo job line) (lines_extend job (with_geo job line) refl refl) job.axes job.offsets job.zones job.tools facts.linked;
     }
 
 -- an OFFSET line
@@ -334,8 +356,8 @@ offset_told job number channel g slot by facts none sound =
     let new : JobView = with_offset job line in
     let first = unbroken (not (rule.has_channel job channel)) NotDeclared _ none in
     let second = unbroken (rule.has_offset job channel g slot) DeclaredTwice None first.1 in
-    let linked : Linked new job.axes job.offsets job.zones =
-    linked_extends job new (lines_extend job new refl refl) job.axes job.offsets job.zones facts.linked in
+    let linked : Linked new job.axes job.offsets job.zones job.tools =
+    linked_extends job new (lines_extend job new refl refl) job.axes job.offsets job.zones job.tools facts.linked in
     record {
       channels = facts.channels;
       axes = facts.axes;
@@ -343,6 +365,7 @@ offset_told job number channel g slot by facts none sound =
       places = all_pairs_push HaveOtherPlaces job.offsets line facts.places (offset_differs job channel g slot second.0 line refl refl refl);
       numbers = facts.numbers;
       options = facts.options;
+      ascend = facts.ascend;
       linked = record {
         owners = linked.owners;
         offsets = All-push (IsSoundOffset new) job.offsets line linked.offsets (record {
@@ -352,6 +375,7 @@ offset_told job number channel g slot by facts none sound =
           by = sound.2;
         });
         zones = linked.zones;
+        tools = linked.tools;
       };
     }
 
@@ -461,7 +485,7 @@ zone_told job number zone x y z facts none zone_range group_range x_range y_rang
       carriers = passed.1.carriers;
       ranges = All-three (λ (side : Side). IsSoundRange side.lo side.hi) x y z x_range y_range z_range;
     } in
-    let linked : Linked new job.axes job.offsets job.zones = linked_extends job new extends job.axes job.offsets job.zones facts.linked in
+    let linked : Linked new job.axes job.offsets job.zones job.tools = linked_extends job new extends job.axes job.offsets job.zones job.tools facts.linked in
     record {
       channels = facts.channels;
       axes = facts.axes;
@@ -469,10 +493,85 @@ zone_told job number zone x y z facts none zone_range group_range x_range y_rang
       places = facts.places;
       numbers = all_pairs_push (λ (l other : ZoneLine). l.zone ≢ other.zone) job.zones line facts.numbers (zone_differs job zone.zone passed.0 line refl);
       options = facts.options;
+      ascend = facts.ascend;
       linked = record {
         owners = linked.owners;
         offsets = linked.offsets;
         zones = All-push (IsSoundZone new) job.zones line linked.zones (zone_extends job new extends line sound);
+        tools = linked.tools;
+      };
+    }
+
+-- a TOOL line
+abbrev pub with_tools : JobView → List (ℕ × List ToolEdge) → JobView
+with_tools job tools = record job { tools = tools }
+
+-- one that gives an edge anew
+abbrev is_fresh : ℕ → ToolEdge → ℕ × List ToolEdge → Bool
+is_fresh channel edge one = (one.0 == channel) && has_edge one.1 edge.tool edge.edge
+
+fresh_edges : (edges : List ToolEdge) (edge : ToolEdge) → has_edge edges edge.tool edge.edge ≡ false → All (λ (l : ToolEdge). l.tool == edge.tool && l.edge == edge.edge ≡ false) edges
+unfolding has_edge
+fresh_edges edges edge none = none_pass (λ (l : ToolEdge). l.tool == edge.tool && l.edge == edge.edge) edges none
+
+other_edges : (one : ℕ × List ToolEdge) (channel : ℕ) (edge : ToolEdge) → one.0 ≡ channel → is_fresh channel edge one ≡ false → has_edge one.1 edge.tool edge.edge ≡ false
+other_edges one channel edge same fresh = rw (eq-eqb one.0 channel same) at fresh
+
+abbrev IsInRange : ToolEdge → Type 0
+IsInRange edge = IsEdge edge.tool edge.edge edge.lengths.x edge.lengths.z
+
+sound_edge : (edge : ToolEdge) → IsInRange edge → IsSoundEdge edge
+sound_edge edge given = record { tool = given.tool_range.1; edge = given.edge_range.1; x = given.near_x; z = given.near_z }
+
+tools_grow : (job : JobView) (channel : ℕ) (edge : ToolEdge) → IsInRange edge → (one : ℕ × List ToolEdge) → AreSoundTools job one → one.0 ≡ channel → is_fresh channel edge one ≡ false
+    → AreSoundTools job (one.0, one.1 ++ edge ∷ [])
+tools_grow job channel edge given one sound same fresh =
+    let further : length (one.1 ++ edge ∷ []) ≡ length one.1 + 1 = length-append one.1 (edge ∷ []) in
+    record {
+      declared = sound.declared;
+      some = omega arith;
+      once = sound_push one.1 edge given.tool_range.0 given.edge_range.0 (fresh_edges one.1 edge (other_edges one channel edge same fresh)) sound.once;
+      edges = All-push IsSoundEdge one.1 edge sound.edges (sound_edge edge given);
+    }
+
+tools_begin : (job : JobView) (channel : ℕ) (edge : ToolEdge) → IsInRange edge → IsDeclared job channel → AreSoundTools job (channel, edge ∷ [])
+tools_begin job channel edge given declared = record {
+  declared = declared;
+  some = omega arith;
+  once = sound_push [] edge given.tool_range.0 given.edge_range.0 (All-nil (λ (l : ToolEdge). l.tool == edge.tool && l.edge == edge.edge ≡ false)) sound_none;
+  edges = All-cons IsSoundEdge edge [] (sound_edge edge given) (All-nil IsSoundEdge);
+}
+
+none_given : (tools : List (ℕ × List ToolEdge)) (channel : ℕ) (edge : ToolEdge) → rule.has_edge tools channel edge.tool edge.edge ≡ false → All (λ one. is_fresh channel edge one ≡ false) tools
+unfolding rule.has_edge
+none_given tools channel edge none = none_pass (is_fresh channel edge) tools none
+
+pub tool_told : (job : JobView) (channel : ℕ) (line : GivenEdge) → ListFacts job → rule.tool_rule job channel line ≡ None → IsGivenEdge line
+    → ListFacts (with_tools job (with_edge job.tools channel (tool_edge line)))
+unfolding rule.tool_rule
+tool_told job channel line facts none given =
+    let edge : ToolEdge = tool_edge line in
+    let tools : List (ℕ × List ToolEdge) = with_edge job.tools channel edge in
+    let new : JobView = with_tools job tools in
+    let extends : Extends job new = lines_extend job new refl refl in
+    let first = unbroken (not (rule.has_channel job channel)) NotDeclared _ none in
+    let second = unbroken (rule.has_edge job.tools channel edge.tool edge.edge) DeclaredTwice None first.1 in
+    let declared : IsDeclared job channel = declared_from job channel (not_false (rule.has_channel job channel) first.0) in
+    let fresh = none_given job.tools channel edge second.0 in
+    let linked : Linked new job.axes job.offsets job.zones job.tools = linked_extends job new extends job.axes job.offsets job.zones job.tools facts.linked in
+    record {
+      channels = facts.channels;
+      axes = facts.axes;
+      slots = facts.slots;
+      places = facts.places;
+      numbers = facts.numbers;
+      options = facts.options;
+      ascend = ascends_with job.tools channel edge fresh facts.ascend;
+      linked = record {
+        owners = linked.owners;
+        offsets = linked.offsets;
+        zones = linked.zones;
+        tools = all_with (AreSoundTools new) channel edge job.tools (tools_grow new channel edge given) (tools_begin new channel edge given (extends.declared channel declared)) fresh linked.tools;
       };
     }
 
@@ -491,7 +590,8 @@ options_told job margin depth budget compensation skip facts options =
       places = facts.places;
       numbers = facts.numbers;
       options = options;
-      linked = linked_extends job new (lines_extend job new refl refl) job.axes job.offsets job.zones facts.linked;
+      ascend = facts.ascend;
+      linked = linked_extends job new (lines_extend job new refl refl) job.axes job.offsets job.zones job.tools facts.linked;
     }
 
 abbrev pub with_programs : JobView → List (List ℕ × ProgramView) → JobView
@@ -507,7 +607,8 @@ list_kept job programs facts =
       places = facts.places;
       numbers = facts.numbers;
       options = facts.options;
-      linked = linked_extends job new (lines_extend job new refl refl) job.axes job.offsets job.zones facts.linked;
+      ascend = facts.ascend;
+      linked = linked_extends job new (lines_extend job new refl refl) job.axes job.offsets job.zones job.tools facts.linked;
     }
 
 -- the job line
@@ -524,7 +625,8 @@ job_line_told job line facts =
       places = facts.places;
       numbers = facts.numbers;
       options = facts.options;
-      linked = linked_extends job new (lines_extend job new refl refl) job.axes job.offsets job.zones facts.linked;
+      ascend = facts.ascend;
+      linked = linked_extends job new (lines_extend job new refl refl) job.axes job.offsets job.zones job.tools facts.linked;
     }
 
 -- of nothing
@@ -541,9 +643,11 @@ nothing_listed = record {
   places = no_pairs HaveOtherPlaces;
   numbers = no_pairs (λ (z other : ZoneLine). z.zone ≢ other.zone);
   options = record { sound_margin = (omega arith, omega arith); sound_depth = omega arith; sound_budget = (omega arith, omega arith) };
+  ascend = no_pairs IsBefore;
   linked = record {
     owners = All-nil (λ (l : AxisLine). IfSome l.owner (IsDeclared nothing_told));
     offsets = All-nil (IsSoundOffset nothing_told);
     zones = All-nil (IsSoundZone nothing_told);
+    tools = All-nil (AreSoundTools nothing_told);
   };
 }

@@ -9,7 +9,7 @@ use Rattle.std.proofs.lemmas.List.Quantifiers.{all_pairs_push}
 use Rattle.job_lines.specs.Code.{refusal_code}
 use Rattle.job_lines.specs.declared.code.Code.TheVariants.{NameRepeated, TooMany, NotInLibrary}
 use Rattle.job_lines.specs.declared.declaration.Declaration.{Declaration}
-use Rattle.job_lines.specs.declared.declaration.Declaration.TheVariants.{Channel, Axis, Geo, Offset, Zone, Margin, Depth, Budget, Compensation, Skip}
+use Rattle.job_lines.specs.declared.declaration.Declaration.TheVariants.{Channel, Axis, Geo, Offset, Zone, Tool, Margin, Depth, Budget, Compensation, Skip}
 use Rattle.job_lines.specs.declared.declaration.NamedZone.{NamedZone}
 use Rattle.nc_blocks.specs.Statement.{BlockView}
 use Rattle.fault_codes.specs.declared.Refusal.{Refusal}
@@ -19,14 +19,14 @@ use Rattle.job_types.specs.Job.{JobView, ProgramView, program_of}
 use Rattle.tape_job.specs.Lines.{Line, has_token, begins_with_percent, raw_lines}
 use Rattle.tape_job.specs.Reading.{ReadingView, Blank, First, DeclarationLine, Header, BlockLine, reading_of}
 use Rattle.tape_job.specs.Rules as rule
-use Rattle.tape_job.specs.Told.{Told, facts_of, accept_compensation, geo_line, zone_line}
+use Rattle.tape_job.specs.Told.{Told, facts_of, accept_compensation, by_channel, geo_line, zone_line}
 use Rattle.tape_job.specs.Read.{code_by, line_trial, end_of_program, trial, end_trial, answer, read_of}
 use Rattle.tape_job.specs.declared.draft.GivenOptions.{GivenOptions}
 use Rattle.tape_job.specs.Steps.{options_with, with_entry, with_line, with_block, tell, unless_refused, run, finish}
 use Rattle.job_types.specs.SoundJob.{IsSoundJob}
 use Rattle.tape_job.proofs.SoundLists.{unbroken, not_false, none_found}
 use Rattle.tape_job.proofs.SoundReadings.{IsSoundDeclaration, IsSoundReading, reading_sound}
-use Rattle.tape_job.proofs.SoundJobLines.{ListFacts, HasRange, no_pairs, list_kept, job_line_told, nothing_listed, side_range, sound_range, axis_within, channel_told, axis_told, geo_told, offset_told, zone_told, options_told}
+use Rattle.tape_job.proofs.SoundJobLines.{ListFacts, HasRange, no_pairs, list_kept, job_line_told, nothing_listed, side_range, sound_range, axis_within, channel_told, axis_told, geo_told, offset_told, zone_told, tool_told, options_told}
 use Rattle.tape_job.proofs.SoundPrograms.{NestedSoFar, nested_block, nested_header, all_nested, keys-with_block, length-with_block, keys-push, names_differ, program_found}
 use Rattle.tape_job.proofs.TellingLemmas.{read_of_is}
 
@@ -71,6 +71,7 @@ declared_told options job number (Offset channel g slot by) facts none sound = o
 declared_told options job number (Zone zone) facts none sound =
     zone_declaration_told job number zone (rule.side_of job.axes zone.x) (rule.side_of job.axes zone.y) (rule.side_of job.axes zone.z) facts none sound
     (side_range job.axes zone.x) (side_range job.axes zone.y) (side_range job.axes zone.z)
+declared_told options job number (Tool channel edge) facts none sound = tool_told job channel edge facts none sound.1
 declared_told options job number (Margin margin) facts none sound =
     options_told job margin job.depth job.budget job.compensation job.skip facts
     (record { sound_margin = sound; sound_depth = facts.options.sound_depth; sound_budget = facts.options.sound_budget })
@@ -176,7 +177,7 @@ run_sound now (line ∷ lines) end sound ran = by (trial now line) refl (λ none
     by (Some refused) some goes ran = absurd cc
 
 nothing_told : Sound (facts_of [])
-unfolding facts_of accept_compensation
+unfolding facts_of accept_compensation by_channel
 nothing_told = record {
   list = nothing_listed;
   names = no_pairs (λ (name other : List ℕ). name ≢ other);
@@ -232,6 +233,8 @@ told_sound now sound none =
       margin = sound.list.options.sound_margin;
       depth = sound.list.options.sound_depth;
       budget = sound.list.options.sound_budget;
+      tool_channels = sound.list.ascend;
+      tools = sound.list.linked.tools;
       few_programs = sound.few;
       program_names = program_names now.job.programs sound.names;
       programs = nested;

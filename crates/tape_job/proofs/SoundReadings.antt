@@ -18,13 +18,16 @@ use Rattle.job_lines.specs.declared.declaration.AxisName.{AxisName}
 use Rattle.job_lines.specs.declared.declaration.NamedSide.{NamedSide}
 use Rattle.job_lines.specs.declared.declaration.ZoneHead.{ZoneHead}
 use Rattle.job_lines.specs.declared.declaration.Declaration.{Declaration}
-use Rattle.job_lines.specs.declared.declaration.Declaration.TheVariants.{Channel, Axis, Offset, Zone, Margin, Depth, Budget}
+use Rattle.job_lines.specs.declared.declaration.Declaration.TheVariants.{Channel, Axis, Offset, Zone, Tool, Margin, Depth, Budget}
 use Rattle.job_lines.specs.Code.{◌>>=◌, or_code}
 use Rattle.job_lines.specs.Header.{header_of}
 use Rattle.job_lines.specs.Declaration as declaration
 use Rattle.job_lines.specs.Extent.{extent_of}
 use Rattle.job_lines.proofs.ExtentLaws.{few_channels}
 use Rattle.job_lines.specs.OptionLines as option
+use Rattle.job_lines.specs.ToolLines as tool_line
+use Rattle.job_lines.specs.declared.limits.TheConstants.{EDGE_LIMIT, TOOL_LIMIT}
+use Rattle.job_lines.specs.declared.tool_lines.GivenEdge.{GivenEdge}
 use Rattle.job_lines.specs.Numbers.{whole_of, number_in_range, number_within}
 use Rattle.job_lines.specs.Length.{in_reach, size_of, is_size, signed_size_of, length_of}
 use Rattle.nc_expressions.specs.NameTexts.{upper, name_of}
@@ -169,12 +172,41 @@ side_sound carrier lo hi =
     then_ok IsPosition IsSoundSide (length_of lo) _ (length_sound lo) (λ l low.
     then_ok IsPosition IsSoundSide (length_of hi) _ (length_sound hi) (λ h high. range_by (int_le l h) c l h refl low high)))
 
+-- tools
+tool_sound : (word : List ℕ) → IfOk (tool_line.tool_of word) (IsWithin 1 TOOL_LIMIT)
+unfolding tool_line.tool_of
+tool_sound word = or_ok (IsWithin 1 TOOL_LIMIT) OutOfRange (number_within 1 TOOL_LIMIT word) (number_sound 1 TOOL_LIMIT word)
+
+edge_sound : (word : List ℕ) → IfOk (tool_line.edge_of word) (IsWithin 1 EDGE_LIMIT)
+unfolding tool_line.edge_of
+edge_sound word = or_ok (IsWithin 1 EDGE_LIMIT) OutOfRange (number_within 1 EDGE_LIMIT word) (number_sound 1 EDGE_LIMIT word)
+
+-- what holds of an edge of a tool
+pub record IsEdge (tool edge : ℕ) (x z : ℤ) : Type 0 where
+  pub tool_range : IsWithin 1 TOOL_LIMIT tool
+  pub edge_range : IsWithin 1 EDGE_LIMIT edge
+  pub near_x : IsPosition x
+  pub near_z : IsPosition z
+
+abbrev pub IsGivenEdge : GivenEdge → Type 0
+IsGivenEdge given = IsEdge given.tool given.edge given.x given.z
+
+given_edge_sound : (tool edge x z : List ℕ) → IfOk (tool_line.given_edge_of tool edge x z) IsGivenEdge
+unfolding tool_line.given_edge_of
+given_edge_sound tool edge x z =
+    then_ok (IsWithin 1 TOOL_LIMIT) IsGivenEdge (tool_line.tool_of tool) _ (tool_sound tool) (λ t is_tool.
+    then_ok (IsWithin 1 EDGE_LIMIT) IsGivenEdge (tool_line.edge_of edge) _ (edge_sound edge) (λ e is_edge.
+    then_ok IsPosition IsGivenEdge (length_of x) _ (length_sound x) (λ a near_x.
+    then_ok IsPosition IsGivenEdge (length_of z) _ (length_sound z) (λ b near_z.
+    record { tool_range = is_tool; edge_range = is_edge; near_x = near_x; near_z = near_z }))))
+
 -- what holds of a job line
 abbrev pub IsSoundDeclaration : Declaration → Type 0
 IsSoundDeclaration (Channel channel program starts) = IsWithin 1 CHANNEL_LIMIT channel × (starts ≡ true → IsSome program)
 IsSoundDeclaration (Axis name owner at) = IsPosition at
 IsSoundDeclaration (Offset channel g slot by) = IsSettable g × (slot < 3) × IsPosition by
 IsSoundDeclaration (Zone zone) = IsWithin 1 ZONE_LIMIT zone.zone × IsWithin 1 ZONE_LIMIT zone.group × IsSoundSide zone.x × IsSoundSide zone.y × IsSoundSide zone.z
+IsSoundDeclaration (Tool channel edge) = IsWithin 1 CHANNEL_LIMIT channel × IsGivenEdge edge
 IsSoundDeclaration (Margin margin) = IsSoundMargin margin
 IsSoundDeclaration (Depth depth) = depth ≤ 4
 IsSoundDeclaration (Budget budget) = IsWithin 1 100000000 budget
@@ -261,6 +293,19 @@ zone_line_sound greatest (zone ∷ group ∷ holder ∷ state ∷ cx ∷ lx ∷ 
     (declaration.named_side_of cz lz hz) (zone_head_sound greatest zone group holder state) (side_sound cx lx hx) (side_sound cy ly hy) (side_sound cz lz hz)
 zone_line_sound greatest args = tt
 
+tool_declaration_sound : (channel : Result ℕ Code) (edge : Result GivenEdge Code) → IfOk channel (IsWithin 1 CHANNEL_LIMIT) → IfOk edge IsGivenEdge
+    → IfOk (declaration.tool_declaration_of channel edge) IsSoundDeclaration
+unfolding declaration.tool_declaration_of
+tool_declaration_sound channel edge is_channel is_edge =
+    then_ok (IsWithin 1 CHANNEL_LIMIT) IsSoundDeclaration channel _ is_channel (λ c range.
+    then_ok IsGivenEdge IsSoundDeclaration edge _ is_edge (λ e given. (range, given)))
+
+tool_line_sound : (greatest : ℕ) → greatest ≤ CHANNEL_LIMIT → (args : List (List ℕ)) → IfOk (declaration.tool_line greatest args) IsSoundDeclaration
+unfolding declaration.tool_line
+tool_line_sound greatest few (channel ∷ tool ∷ edge ∷ x ∷ z ∷ []) =
+    tool_declaration_sound (declaration.channel_of greatest channel) (tool_line.given_edge_of tool edge x z) (channel_sound greatest few channel) (given_edge_sound tool edge x z)
+tool_line_sound greatest few args = tt
+
 job_line_sound : (args : List (List ℕ)) → IfOk (declaration.job_line args) IsSoundDeclaration
 unfolding declaration.job_line
 job_line_sound (version ∷ []) = tt
@@ -338,7 +383,8 @@ declaration_sound greatest few kind args =
     (if_ok IsSoundDeclaration (bytes_eq kind (codes "GEO")) _ _ (λ _. geo_line_sound greatest args)
     (if_ok IsSoundDeclaration (bytes_eq kind (codes "OFFSET")) _ _ (λ _. offset_line_sound greatest args)
     (if_ok IsSoundDeclaration (bytes_eq kind (codes "ZONE")) _ _ (λ _. zone_line_sound greatest args)
-    (if_ok IsSoundDeclaration (bytes_eq kind (codes "JOB")) _ _ (λ _. job_line_sound args) (option_declaration_sound kind args))))))
+    (if_ok IsSoundDeclaration (bytes_eq kind (codes "TOOL")) _ _ (λ _. tool_line_sound greatest few args)
+    (if_ok IsSoundDeclaration (bytes_eq kind (codes "JOB")) _ _ (λ _. job_line_sound args) (option_declaration_sound kind args)))))))
 
 -- what holds of what a line says that begins with '%' or not
 abbrev pub IsSoundReading : Bool → ReadingView → Type 0

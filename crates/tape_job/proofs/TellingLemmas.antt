@@ -1,11 +1,11 @@
 -- One line more: what lines tell together, and what is told line by line, are the same.
-use Rattle.std.proofs.Common.{is_some, unwrap_or, ◌≡◌, ◌∙◌, ℕ, Bool, true, false, not, ◌&&◌, ◌||◌, if◌then◌else◌, nat_lt, List, [], ◌∷◌, ◌++◌, Result, Ok, Err, Option, Some, None, refl, sym, ap, append_assoc, append-nil, ◌+◌, length, arith}
+use Rattle.std.proofs.Common.{is_some, unwrap_or, ◌≡◌, ◌∙◌, ℕ, Bool, true, false, not, ◌&&◌, ◌||◌, if◌then◌else◌, nat_lt, List, [], ◌∷◌, ◌++◌, Result, Ok, Err, IfOk, Option, Some, None, IfSome, ◌≤◌, refl, sym, ap, append_assoc, append-nil, ◌+◌, length, arith}
 use Rattle.std.specs.List.{list_any, cons_option, enumerate_from}
 use Rattle.std.specs.Option.{option_or}
 use Rattle.fault_codes.specs.declared.Refusal.{Refusal}
 use Rattle.nc_blocks.specs.Statement.{BlockView}
 use Rattle.tape_job.specs.Draft.{nothing_told}
-use Rattle.tape_job.specs.Reading.{ReadingView, Header, BlockLine, words_of, block_line, tokens_reading, block_reading, entry_reading, with_shown, reading_of}
+use Rattle.tape_job.specs.Reading.{ReadingView, DeclarationLine, Header, BlockLine, words_of, block_line, tokens_reading, block_reading, entry_reading, with_shown, reading_of}
 use Rattle.nc_syntax.specs.Blocks.{statement_of}
 use Rattle.block_scanner.specs.Tokens.{tokens_of}
 use Rattle.block_scanner.specs.declared.ScanFault.{ScanFault}
@@ -17,9 +17,14 @@ use Rattle.tape_job.specs.declared.fault.JobFault.{JobFault}
 use Rattle.tape_job.specs.declared.fault.JobFault.TheVariants.{Refused, NoMemory}
 use Rattle.job_types.specs.Job.{JobView, ProgramView, program_of}
 use Rattle.tape_job.specs.Lines.{Line, has_token, begins_with_percent, raw_lines, text_of, before_comment}
-use Rattle.tape_job.specs.Told.{Told, facts_of, reading_under, reading_after, accept_compensation, says_compensation, says_skip, any_after, last_of, option_in, job_line_in, entries, axes_in, job_line_from, channel_from, axis_from, geo_from, offset_from, zone_from, margin_from, depth_from, budget_from, block_from, name_from, until_header, blocks_in, with_program, programs_in}
+use Rattle.tape_job.specs.Told.{Told, facts_of, reading_under, reading_after, accept_compensation, says_compensation, says_skip, any_after, last_of, option_in, job_line_in, entries, axes_in, job_line_from, channel_from, axis_from, geo_from, offset_from, zone_from, tool_from, tools_in, by_channel, margin_from, depth_from, budget_from, block_from, name_from, until_header, blocks_in, with_program, programs_in}
 use Rattle.tape_job.specs.Read.{trial, first_trial, end_trial, answer, read_of, GivesRead}
-use Rattle.tape_job.specs.Steps.{with_entry, with_block_of, with_header, with_line, tell, unless_refused, run, finish, Tells}
+use Rattle.axis_sets.specs.declared.limits.TheConstants.{CHANNEL_LIMIT}
+use Rattle.job_lines.specs.declared.declaration.Declaration.TheVariants.{Tool}
+use Rattle.tool_offsets.specs.declared.tools.ToolEdge.{ToolEdge}
+use Rattle.tape_job.proofs.SoundReadings.{IsSoundReading, reading_sound}
+use Rattle.tape_job.proofs.ToolChannels.{by_channel_push}
+use Rattle.tape_job.specs.Steps.{with_tool, with_entry, with_block_of, with_header, with_line, tell, unless_refused, run, finish, Tells}
 
 -- a test of a list with one more
 or_false : (b : Bool) → b || false ≡ b
@@ -107,6 +112,23 @@ line_push d lines line =
     ap last_of (entries_push (λ before (l : Line). job_line_from l.0 (reading_after before l.1)) [] lines line)
     ∙ last_with_entry entries_before (job_line_from line.0 (reading_after lines line.1)) in
     ap (λ o. unwrap_or o d) last ∙ unwrap_either (job_line_from line.0 (reading_after lines line.1)) (job_line_in lines) d
+
+-- the channel of a line that gives an edge is one of those that there are
+tool_channel : (percent : Bool) (read : Result ReadingView ℕ) → IfOk read (IsSoundReading percent) → IfSome (tool_from read) (λ line. (1 ≤ line.0) × (line.0 ≤ CHANNEL_LIMIT))
+tool_channel percent (Ok (DeclarationLine (Tool channel edge))) sound = sound.0
+tool_channel percent read sound = tt
+
+with_tool_push : (lines : List (ℕ × ToolEdge)) (line : Option (ℕ × ToolEdge)) → IfSome line (λ l. (1 ≤ l.0) × (l.0 ≤ CHANNEL_LIMIT))
+    → by_channel (with_entry lines line) ≡ with_tool (by_channel lines) line
+with_tool_push lines None known = refl
+with_tool_push lines (Some line) known = by_channel_push lines line known.0 known.1
+
+tools_push : (lines : List Line) (line : Line) → tools_in (lines ++ line ∷ []) ≡ with_tool (tools_in lines) (tool_from (reading_after lines line.1))
+tools_push lines line =
+    ap by_channel (entries_push (λ before (l : Line). tool_from (reading_after before l.1)) [] lines line)
+    ∙ with_tool_push (entries (λ before (l : Line). tool_from (reading_after before l.1)) [] lines) (tool_from (reading_after lines line.1))
+    (tool_channel (begins_with_percent line.1) (reading_after lines line.1)
+    (reading_sound (list_any (λ (l : Line). has_token l.1) lines) (list_any (λ (l : Line). begins_with_percent l.1) lines) (accept_compensation lines) line.1))
 
 -- no block accepts compensation, so that a line does so hangs on no line before it that does
 block_accepts_none : (read : Result BlockView ℕ) → says_compensation (block_line read) ≡ false
@@ -232,6 +254,7 @@ told-push lines line =
       value_push depth_from nothing_told.depth lines line,
       value_push budget_from nothing_told.budget lines line,
       accept_push lines line,
+      tools_push lines line,
       any_after_push (λ before (l : Line). says_skip (reading_after before l.1)) [] lines line,
       programs_push [] lines line,
     )

@@ -10,3 +10,4 @@ pub mod RefusalSteps
 pub mod Rules
 pub mod Steps
 pub mod Told
+pub mod ToolKeys

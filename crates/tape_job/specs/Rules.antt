@@ -10,7 +10,7 @@ use Rattle.job_lines.specs.declared.code.Code.TheVariants.{NotDeclared, Declared
 use Rattle.job_lines.specs.declared.declaration.AxisName.{AxisName}
 use Rattle.job_lines.specs.declared.declaration.NamedSide.{NamedSide}
 use Rattle.job_lines.specs.declared.declaration.Declaration.{Declaration}
-use Rattle.job_lines.specs.declared.declaration.Declaration.TheVariants.{Channel, Axis, Geo, Offset, Zone, Margin, Depth, Budget, Compensation, Skip}
+use Rattle.job_lines.specs.declared.declaration.Declaration.TheVariants.{Channel, Axis, Geo, Offset, Zone, Tool, Margin, Depth, Budget, Compensation, Skip}
 use Rattle.nc_blocks.specs.Statement.{BlockView}
 use Rattle.nc_control_flow.specs.declared.nest.Opened.{Opened}
 use Rattle.nc_control_flow.specs.Nested.{nest_of}
@@ -19,11 +19,14 @@ use Rattle.job_types.specs.declared.job.AxisLine.{AxisLine}
 use Rattle.job_types.specs.declared.job.Side.{Side}
 use Rattle.tape_job.specs.declared.draft.GivenOptions.{GivenOptions}
 use Rattle.job_types.specs.Job.{JobView, ProgramView}
+use Rattle.tool_offsets.specs.Tools as edges
 use Rattle.tape_job.specs.Reading.{ReadingView, Blank, First, DeclarationLine, Header, BlockLine}
 use Rattle.job_types.specs.Zones.{is_carrier}
 use Rattle.job_types.specs.Axes.{axis_at}
 use Rattle.job_lines.specs.Extent.{extent_of}
 use Rattle.job_lines.specs.declared.limits.TheConstants.{PROGRAM_LIMIT}
+use Rattle.job_lines.specs.declared.tool_lines.GivenEdge.{GivenEdge}
+use Rattle.tool_offsets.specs.declared.tools.ToolEdge.{ToolEdge}
 
 -- the refusal of a line by a rule
 unfoldable pub refusal : Code → ℕ → Refusal
@@ -73,6 +76,10 @@ owns job owner axis = is_owned_line owner (slice_get job.axes axis)
 unfoldable pub has_zone : JobView → ℕ → Bool
 has_zone job zone = list_any (λ line. line.zone == zone) job.zones
 
+-- a line gives this edge of this tool of the channel
+unfoldable pub has_edge : List (ℕ × List ToolEdge) → ℕ → ℕ → ℕ → Bool
+has_edge tools channel tool edge = list_any (λ one. (one.0 == channel) && edges.has_edge one.1 tool edge) tools
+
 unfoldable pub channel_rule : JobView → ℕ → Option Code
 channel_rule job channel = if has_channel job channel then Some DeclaredTwice else None
 
@@ -95,6 +102,12 @@ unfoldable pub offset_rule : JobView → ℕ → ℕ → ℕ → Option Code
 offset_rule job channel g slot =
     if not (has_channel job channel) then Some NotDeclared
     else if has_offset job channel g slot then Some DeclaredTwice
+    else None
+
+unfoldable pub tool_rule : JobView → ℕ → GivenEdge → Option Code
+tool_rule job channel edge =
+    if not (has_channel job channel) then Some NotDeclared
+    else if has_edge job.tools channel edge.tool edge.edge then Some DeclaredTwice
     else None
 
 -- a direction with its axis for the axis' name
@@ -149,6 +162,7 @@ declaration_rule options job (Axis name owner at) = axis_rule job name owner
 declaration_rule options job (Geo channel slot axis) = slot_rule job channel slot (axis_of job.axes axis)
 declaration_rule options job (Offset channel g slot by) = offset_rule job channel g slot
 declaration_rule options job (Zone zone) = zone_rule job zone.zone zone.holder (side_of job.axes zone.x) (side_of job.axes zone.y) (side_of job.axes zone.z)
+declaration_rule options job (Tool channel edge) = tool_rule job channel edge
 declaration_rule options job (Margin margin) = option_rule options.margin
 declaration_rule options job (Depth depth) = option_rule options.depth
 declaration_rule options job (Budget budget) = option_rule options.budget

@@ -1,5 +1,5 @@
 -- Steps. The same, one line after the other.
-use Rattle.std.specs.Prelude.{◌≡◌, ℕ, Bool, false, ◌||◌, List, [], ◌∷◌, ◌++◌, Result, Ok, Err, Option, Some, None, is_some, unwrap_or}
+use Rattle.std.specs.Prelude.{◌≡◌, ℕ, Bool, false, ◌||◌, ◌==◌, nat_le, nat_lt, if◌then◌else◌, List, [], ◌∷◌, ◌++◌, Result, Ok, Err, Option, Some, None, is_some, unwrap_or}
 use Rattle.std.specs.Str.{bytes_eq}
 use Rattle.nc_blocks.specs.Statement.{BlockView}
 use Rattle.fault_codes.specs.declared.Refusal.{Refusal}
@@ -8,12 +8,13 @@ use Rattle.tape_job.specs.declared.fault.JobFault.TheVariants.{Refused, NoMemory
 use Rattle.tape_job.specs.declared.reading.LineFault.{LineFault}
 use Rattle.tape_job.specs.declared.reading.LineFault.TheVariants as fault
 use Rattle.tape_job.specs.declared.reading.Reading.{Reading}
+use Rattle.tool_offsets.specs.declared.tools.ToolEdge.{ToolEdge}
 use Rattle.tape_job.specs.Draft.{DraftView}
 use Rattle.tape_job.specs.declared.draft.GivenOptions.{GivenOptions}
 use Rattle.job_types.specs.Job.{JobView, ProgramView, program_of}
 use Rattle.tape_job.specs.Lines.{Line, has_token, begins_with_percent}
 use Rattle.tape_job.specs.Reading.{ReadingView, reading_view, reading_of}
-use Rattle.tape_job.specs.Told.{Told, job_line_from, channel_from, axis_from, geo_from, offset_from, zone_from, margin_from, depth_from, budget_from, says_compensation, says_skip, block_from, name_from}
+use Rattle.tape_job.specs.Told.{Told, job_line_from, channel_from, axis_from, geo_from, offset_from, zone_from, tool_from, margin_from, depth_from, budget_from, says_compensation, says_skip, block_from, name_from}
 use Rattle.tape_job.specs.Read.{line_trial, trial, end_trial, answer}
 use Rattle.tape_job.specs.Rules.{rule_of, has_program, structure_fault}
 
@@ -21,6 +22,22 @@ use Rattle.tape_job.specs.Rules.{rule_of, has_program, structure_fault}
 abbrev pub with_entry : {A : Type 0} → List A → Option A → List A
 with_entry xs None = xs
 with_entry xs (Some x) = xs ++ x ∷ []
+
+-- one more edge of a channel, among those of the channels in ascending order
+unfoldable pub with_edge : List (ℕ × List ToolEdge) → ℕ → ToolEdge → List (ℕ × List ToolEdge)
+with_edge [] channel edge = (channel, edge ∷ []) ∷ []
+with_edge (one ∷ tools) channel edge =
+    if nat_lt one.0 channel then one ∷ with_edge tools channel edge
+    else if one.0 == channel then (one.0, one.1 ++ edge ∷ []) ∷ tools
+    else (channel, edge ∷ []) ∷ one ∷ tools
+
+-- the number of the channel is not below another's
+abbrev pub is_due : ℕ → ℕ × List ToolEdge → Bool
+is_due channel one = nat_le channel one.0
+
+abbrev pub with_tool : List (ℕ × List ToolEdge) → Option (ℕ × ToolEdge) → List (ℕ × List ToolEdge)
+with_tool tools None = tools
+with_tool tools (Some line) = with_edge tools line.0 line.1
 
 -- the last program with one more block
 abbrev pub with_block : List (List ℕ × ProgramView) → ℕ × BlockView → List (List ℕ × ProgramView)
@@ -49,6 +66,7 @@ with_line job number reading = record job {
   depth = unwrap_or (depth_from reading) job.depth;
   budget = unwrap_or (budget_from reading) job.budget;
   compensation = says_compensation reading || job.compensation;
+  tools = with_tool job.tools (tool_from reading);
   skip = says_skip reading || job.skip;
   programs = with_header (with_block_of job.programs (block_from number reading)) number (name_from reading);
 }

@@ -1,8 +1,8 @@
 -- Meaning. What lines tell together.
-use Rattle.std.specs.Prelude.{ℕ, ℤ, Bool, true, false, ◌||◌, List, [], ◌∷◌, ◌++◌, Result, Ok, Option, Some, None, is_some, unwrap_or}
-use Rattle.std.specs.List.{list_any, cons_option}
+use Rattle.std.specs.Prelude.{ℕ, ℤ, Bool, true, false, ◌||◌, ◌==◌, List, [], ◌∷◌, ◌++◌, filter, map, Result, Ok, Option, Some, None, is_some, unwrap_or}
+use Rattle.std.specs.List.{list_any, cons_option, filter_map, range_with_len}
 use Rattle.std.specs.Option.{option_map}
-use Rattle.job_lines.specs.declared.declaration.Declaration.TheVariants.{Channel, Axis, Geo, Offset, Zone, Margin, Depth, Budget, Compensation, Skip}
+use Rattle.job_lines.specs.declared.declaration.Declaration.TheVariants.{Channel, Axis, Geo, Offset, Zone, Tool, Margin, Depth, Budget, Compensation, Skip}
 use Rattle.job_lines.specs.declared.declaration.NamedZone.{NamedZone}
 use Rattle.nc_blocks.specs.Statement.{BlockView}
 use Rattle.job_types.specs.declared.job.ChannelLine.{ChannelLine}
@@ -11,6 +11,9 @@ use Rattle.job_types.specs.declared.job.GeoLine.{GeoLine}
 use Rattle.job_types.specs.declared.job.OffsetLine.{OffsetLine}
 use Rattle.job_types.specs.declared.job.ZoneLine.{ZoneLine}
 use Rattle.job_types.specs.declared.job.Side.{Side}
+use Rattle.axis_sets.specs.declared.limits.TheConstants.{CHANNEL_LIMIT}
+use Rattle.job_lines.specs.declared.tool_lines.GivenEdge.{GivenEdge}
+use Rattle.tool_offsets.specs.declared.tools.ToolEdge.{ToolEdge}
 use Rattle.tape_job.specs.Draft.{nothing_told}
 use Rattle.tape_job.specs.declared.draft.GivenOptions.{GivenOptions}
 use Rattle.job_types.specs.Job.{JobView, ProgramView, program_of}
@@ -79,6 +82,14 @@ abbrev pub offset_from : ℕ → Result ReadingView ℕ → Option OffsetLine
 offset_from number (Ok (DeclarationLine (Offset channel g slot by))) = Some (record { line = number; channel = channel; g = g; slot = slot; by = by })
 offset_from number reading = None
 
+-- the edge of a tool that a line gives
+abbrev pub tool_edge : GivenEdge → ToolEdge
+tool_edge given = record { tool = given.tool; edge = given.edge; lengths = record { x = given.x; z = given.z } }
+
+abbrev pub tool_from : Result ReadingView ℕ → Option (ℕ × ToolEdge)
+tool_from (Ok (DeclarationLine (Tool channel edge))) = Some (channel, tool_edge edge)
+tool_from reading = None
+
 abbrev pub margin_from : Result ReadingView ℕ → Option ℤ
 margin_from (Ok (DeclarationLine (Margin margin))) = Some margin
 margin_from reading = None
@@ -139,6 +150,22 @@ programs_in before (line ∷ lines) =
 abbrev pub axes_in : List Line → List AxisLine
 axes_in lines = entries (λ before line. axis_from line.0 (reading_after before line.1)) [] lines
 
+-- the edges that lines give to a channel, in their order
+abbrev pub edges_of : ℕ → List (ℕ × ToolEdge) → List ToolEdge
+edges_of channel lines = map (λ line. line.1) (filter (λ line. line.0 == channel) lines)
+
+-- a channel with its edges, where it has any
+abbrev pub with_tools : ℕ → List ToolEdge → Option (ℕ × List ToolEdge)
+with_tools channel [] = None
+with_tools channel (edge ∷ edges) = Some (channel, edge ∷ edges)
+
+-- each channel that has an edge with its edges, in ascending order of the channels
+unfoldable pub by_channel : List (ℕ × ToolEdge) → List (ℕ × List ToolEdge)
+by_channel lines = filter_map (λ channel. with_tools channel (edges_of channel lines)) (range_with_len 1 CHANNEL_LIMIT)
+
+abbrev pub tools_in : List Line → List (ℕ × List ToolEdge)
+tools_in lines = by_channel (entries (λ before line. tool_from (reading_after before line.1)) [] lines)
+
 -- the option that a line gives; where no line is refused, there is one such line at most
 abbrev pub option_in : {A : Type 0} → (Result ReadingView ℕ → Option A) → List Line → Option A
 option_in give lines = last_of (entries (λ before line. give (reading_after before line.1)) [] lines)
@@ -168,6 +195,7 @@ facts_of lines = record {
     depth = unwrap_or (option_in depth_from lines) nothing_told.depth;
     budget = unwrap_or (option_in budget_from lines) nothing_told.budget;
     compensation = accept_compensation lines;
+    tools = tools_in lines;
     skip = any_after (λ before line. says_skip (reading_after before line.1)) [] lines;
     programs = programs_in [] lines;
   };

@@ -2,19 +2,20 @@
 use crate::draft::Draft;
 use crate::reading::{LineFault, Reading};
 use axis_sets::ChannelId;
-use job_lines::{AxisName, Declaration, NamedZone};
+use job_lines::{AxisName, Declaration, GivenEdge, NamedZone};
 use job_types::{AxisLine, ChannelLine, GeoLine, OffsetLine, ZoneLine};
 use micro_units::Um;
 use nc_blocks::NameText;
 use std::alloc::{AllocError, Global};
+use tool_offsets::{Lengths, ToolEdge};
 
 impl Draft {
     ghost use Rattle.std.specs.Prelude.{◌≡◌, ◌<◌, ◌^◌, [], ◌∷◌, ◌++◌, Ok, OnOk, IfErr, None};
     ghost use Rattle.tape_job.specs.Read.{code_by};
     ghost use Rattle.tape_job.specs.Reading.{DeclarationLine, reading_view, FaultIsListed};
     ghost use Rattle.tape_job.specs.Rules.{axis_of, side_of, last_count, rule_of};
-    ghost use Rattle.tape_job.specs.Steps.{with_entry, draft_with, Adds};
-    ghost use Rattle.tape_job.specs.Told.{geo_line, zone_line};
+    ghost use Rattle.tape_job.specs.Steps.{with_entry, with_edge, draft_with, Adds};
+    ghost use Rattle.tape_job.specs.Told.{geo_line, tool_edge, zone_line};
 
     /// Adds a channel.
     fn add_channel(
@@ -128,9 +129,36 @@ impl Draft {
         Ok(())
     }
 
+    /// Adds an edge of a tool.
+    fn add_tool(
+        &mut self,
+        alloc: Global,
+        channel: ChannelId,
+        given: GivenEdge,
+    ) -> Result<(), AllocError>
+        ensures { OnOk result (self.new ≡ record self.old {
+          job = record self.old.job { tools = with_edge self.old.job.tools channel (tool_edge given) };
+        }) }
+    {
+        let edge = ToolEdge {
+            tool: given.tool,
+            edge: given.edge,
+            lengths: Lengths {
+                x: given.x,
+                z: given.z,
+            },
+        };
+        self.tools.add(alloc, channel, edge)
+    }
+
     /// Adds what a job line says.
     #[tactic(auto, unfolding(crate::specs::Steps::with_line))]
-    fn add_declaration(&mut self, line: u32, declaration: Declaration) -> Result<(), AllocError>
+    fn add_declaration(
+        &mut self,
+        alloc: Global,
+        line: u32,
+        declaration: Declaration,
+    ) -> Result<(), AllocError>
         ensures { OnOk result (self.new ≡ draft_with self.old line (Ok (DeclarationLine declaration))) }
     {
         match declaration {
@@ -158,6 +186,7 @@ impl Draft {
                 by,
             })?,
             Declaration::Zone(zone) => self.add_zone(line, zone)?,
+            Declaration::Tool { channel, edge } => self.add_tool(alloc, channel, edge)?,
             Declaration::Margin(margin) => {
                 self.options.margin = true;
                 self.job.margin = margin;
@@ -197,7 +226,7 @@ impl Draft {
                 Ok(())
             }
             Reading::DeclarationLine(declaration) => {
-                self.add_declaration(line, declaration)?;
+                self.add_declaration(alloc, line, declaration)?;
                 Ok(())
             }
             Reading::Header(name) => {

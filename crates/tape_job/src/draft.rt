@@ -1,5 +1,6 @@
 //! A job whose lines are being read.
 use crate::programs::Library;
+use crate::tool_lines::ToolLines;
 use indexmap::IndexMap;
 use job_lines::FIRST_VERSION;
 use job_types::Job;
@@ -30,6 +31,8 @@ pub(crate) struct Draft {
     pub job: Job,
     /// The programs, which the job has once they are resolved.
     pub programs: Library,
+    /// The tools, which the job has in the end.
+    pub tools: ToolLines,
 }
 
 impl Model for Draft {
@@ -41,7 +44,7 @@ impl Model for Draft {
 
     ghost coded = { Prim.hlevel (codes, tree_code) };
 
-    ghost view = { λ d. record { options = d.options; job = record d.job { programs = d.programs } } };
+    ghost view = { λ d. record { options = d.options; job = record d.job { programs = d.programs; tools = d.tools } } };
 }
 
 impl Draft {
@@ -80,6 +83,7 @@ impl Draft {
                 programs: IndexMap::new(alloc),
             },
             programs: Library::new(alloc),
+            tools: ToolLines::new(alloc),
         }
     }
 
@@ -92,7 +96,9 @@ impl Draft {
             options: _,
             mut job,
             programs,
+            tools,
         } = self;
+        job.tools = tools.into_tools();
         job.programs = programs.resolve(alloc)?;
         Ok(job)
     }

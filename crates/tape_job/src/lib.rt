@@ -16,6 +16,7 @@ mod reader;
 mod reading;
 mod refusals;
 mod rules;
+mod tool_lines;
 
 pub use fault::JobFault;
 pub use job_reader::JobReader;

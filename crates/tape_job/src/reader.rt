@@ -47,7 +47,7 @@ impl Reader {
     ghost use Rattle.tape_job.specs.Steps.{tell, Adds, Admits, Tells};
 
     /// A reader to which no line is told.
-    #[tactic(auto, using(crate::proofs::FitLemmas::nothing_fits, crate::proofs::FitLemmas::nothing_short), unfolding(crate::specs::Told::facts_of, crate::specs::Told::accept_compensation))]
+    #[tactic(auto, using(crate::proofs::FitLemmas::nothing_fits, crate::proofs::FitLemmas::nothing_short), unfolding(crate::specs::Told::facts_of, crate::specs::Told::accept_compensation, crate::specs::Told::by_channel))]
     pub(crate) fn new(alloc: Global) -> Reader
         ensures value { result ≡ facts_of [] }
         ensures fits { BlocksFit result.job }

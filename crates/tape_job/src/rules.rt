@@ -5,7 +5,7 @@ ghost use Rattle.tape_job.specs.Rules.{is_named, is_same_owner, is_owned_line, s
 
 use crate::draft::Draft;
 use axis_sets::{AxisId, ChannelId, ZoneId};
-use job_lines::{AxisName, Code, Declaration, Extent, NamedSide, NamedZone};
+use job_lines::{AxisName, Code, Declaration, Extent, GivenEdge, NamedSide, NamedZone};
 use job_types::{AxisLine, Side, axis_at};
 
 /// Whether the axis has this name.
@@ -78,7 +78,7 @@ fn option_rule(given: bool) -> Option<Code>
 
 impl Draft {
     ghost use Rattle.std.specs.Prelude.{◌≡◌, Some};
-    ghost use Rattle.tape_job.specs.Rules.{has_channel, axis_of, has_axis, has_slot, has_slot_axis, has_owner, has_offset, owns, has_zone, channel_rule, axis_rule, slot_rule, offset_rule, side_of, owns_carrier, sides_rule, zone_rule, declaration_rule};
+    ghost use Rattle.tape_job.specs.Rules.{has_channel, axis_of, has_axis, has_slot, has_slot_axis, has_owner, has_offset, owns, has_zone, channel_rule, axis_rule, slot_rule, offset_rule, side_of, owns_carrier, sides_rule, zone_rule, tool_rule, declaration_rule};
 
     /// Whether a line declares the channel.
     #[tactic(auto, unfolding(crate::specs::Rules::has_channel))]
@@ -225,6 +225,20 @@ impl Draft {
         }
     }
 
+    /// What a TOOL line breaks.
+    #[tactic(auto, unfolding(crate::specs::Rules::tool_rule))]
+    fn tool_rule(&self, channel: ChannelId, edge: GivenEdge) -> Option<Code>
+        ensures { result ≡ tool_rule self.now.job channel edge }
+    {
+        if !self.has_channel(channel) {
+            Some(Code::NotDeclared)
+        } else if self.tools.has(channel, edge.tool, edge.edge) {
+            Some(Code::DeclaredTwice)
+        } else {
+            None
+        }
+    }
+
     /// A direction with the axis that its name names.
     #[tactic(auto, unfolding(crate::specs::Rules::side_of))]
     pub(crate) fn side_of(&self, side: NamedSide) -> Option<Side>
@@ -317,6 +331,7 @@ impl Draft {
                 ..
             } => self.offset_rule(*channel, *g, *slot),
             Declaration::Zone(zone) => self.zone_rule(zone),
+            Declaration::Tool { channel, edge } => self.tool_rule(*channel, *edge),
             Declaration::Margin(_) => option_rule(self.options.margin),
             Declaration::Depth(_) => option_rule(self.options.depth),
             Declaration::Budget(_) => option_rule(self.options.budget),

@@ -1,1 +1,4 @@
+pub mod ChoiceLaws
 pub mod Crosses
+pub mod ShiftLaws
+pub mod ShiftedPaths

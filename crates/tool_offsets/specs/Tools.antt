@@ -29,9 +29,9 @@ has_edge edges tool edge = list_any (λ line. line.tool == tool && line.edge == 
 abbrev pub is_known : List ToolEdge → Active → Bool
 is_known edges active = active.edge == 0 || has_edge edges active.tool active.edge
 
--- the edge that a tool begins with: 1 where it has that, else 0
+-- the edge that a tool begins with: 1 where it has that, else 0; tool 0 has none
 abbrev pub first_edge : List ToolEdge → ℕ → ℕ
-first_edge edges tool = if has_edge edges tool 1 then 1 else 0
+first_edge edges tool = if tool == 0 then 0 else if has_edge edges tool 1 then 1 else 0
 
 -- a tool is selected with the edge that it begins with; tool 0 with edge 0, and any other must have an edge
 unfoldable pub selection : List ToolEdge → ℕ → Result Active ℕ

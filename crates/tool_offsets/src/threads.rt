@@ -1,6 +1,6 @@
 //! The types whose values may go to another thread, and that threads may share.
 
-use crate::{Active, Lengths, ToolEdge, Tools};
+use crate::{Active, Lengths, ToolEdge, ToolInUse, Tools};
 
 /// Asks this of a type, and does nothing: each call is proved.
 fn crosses_threads<T: Send + Sync>() {}
@@ -10,5 +10,6 @@ fn types_cross_threads() {
     crosses_threads::<Active>();
     crosses_threads::<Lengths>();
     crosses_threads::<ToolEdge>();
+    crosses_threads::<ToolInUse>();
     crosses_threads::<Tools>();
 }

@@ -16,7 +16,7 @@ pub struct Lengths {
 }
 
 /// The lengths of edge 0.
-const NO_LENGTHS: Lengths = Lengths {
+pub(crate) const NO_LENGTHS: Lengths = Lengths {
     x: Um { micrometres: 0 },
     z: Um { micrometres: 0 },
 };
@@ -41,7 +41,8 @@ pub struct Active {
     pub edge: u8,
 }
 
-/// The tools of a channel: their edges, in the order of the input.
+/// The tools of a channel: their edges, in the order of the input. A job gives each edge of a tool once, and none with the
+/// number 0. Where a list gives an edge twice, the first counts.
 #[derive(Drop)]
 pub struct Tools {
     /// The edges.
@@ -88,7 +89,6 @@ impl Tools {
     /// has no edge is alarm 34.
     #[tactic(auto, unfolding(crate::specs::Tools::selection))]
     pub fn select(&self, tool: u16) -> Result<Active, u16>
-        requires { model.AreSound self.now }
         ensures exact { result ≡ model.selection self.now tool }
         ensures known { IfOk result (λ active. model.is_known self.now active ≡ true) }
     {
@@ -107,7 +107,6 @@ impl Tools {
     /// alarm 34.
     #[tactic(auto, unfolding(crate::specs::Tools::edge_selection))]
     pub fn edge(&self, active: Active, edge: u8) -> Result<Active, u16>
-        requires { model.AreSound self.now }
         ensures exact { result ≡ model.edge_selection self.now active edge }
         ensures known { IfOk result (λ next. model.is_known self.now next ≡ true) }
     {
@@ -124,8 +123,7 @@ impl Tools {
     /// The lengths of the edge of `active`; 0 where that is edge 0.
     #[tactic(auto, unfolding(crate::specs::Tools::lengths_of))]
     pub fn lengths(&self, active: Active) -> Lengths
-        requires sound { model.AreSound self.now }
-        requires known { model.is_known self.now active ≡ true }
+        requires { model.is_known self.now active ≡ true }
         ensures { result ≡ model.lengths_of self.now active }
     {
         if active.edge == 0 {

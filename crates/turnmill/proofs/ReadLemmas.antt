@@ -1,5 +1,5 @@
 -- An input that was read piece after piece.
-use Rattle.std.proofs.Common.{◌≡◌, ◌∙◌, ℕ, ◌+◌, ◌<◌, ◌≤◌, List, [], ◌++◌, length, take, Option, None, Some, Result, IfOk, refl, ap, sym, subst, arith, length-append, append_assoc}
+use Rattle.std.proofs.Common.{◌≡◌, ◌∙◌, ℕ, ◌+◌, ◌<◌, ◌≤◌, List, [], ◌++◌, length, take, Option, None, Some, Result, Ok, Err, IfOk, IfErr, refl, ap, sym, subst, arith, length-append, append_assoc}
 use Rattle.std.proofs.lemmas.List.{append-nil, length-take-le}
 use Rattle.edge_io.specs.Moves.{Loses, IsEmptied}
 use Rattle.exit_statuses.specs.declared.Status.{Status}
@@ -10,7 +10,10 @@ use Rattle.tape_job.proofs.SoundJobs.{read_sound}
 use Rattle.tape_job.specs.Input.{ReaderView, HasTaken}
 use Rattle.tape_job.specs.Read.{read_of}
 use Rattle.turnmill.proofs.CheckLemmas.{front-short, writes-short}
-use Rattle.turnmill.specs.Input.{ReadsAll, IsReadFrom}
+use Rattle.job_types.specs.declared.job.Job.{Job}
+use Rattle.turnmill.specs.Input.{ReadsAll, ReadsJob, IsReadFrom}
+use Rattle.turnmill.specs.declared.check.InputFault.{InputFault}
+use Rattle.turnmill.specs.declared.check.InputFault.TheVariants.{NoMemory}
 use Rattle.turnmill.specs.Output.{InputCallsFor, ReadingCallsFor, IsReadWhole, Writes, WritesFront}
 
 -- two losses, one after the other
@@ -55,6 +58,14 @@ pub read_from : (reader : ReaderView) (number : ℕ) (read : Result JobView Refu
     → IsEmptied mid → Loses mid new (take 0 buffer) → ((bytes : List ℕ) → HasTaken reader bytes → read_of bytes ≡ read) → IsReadFrom read old new
 read_from reader number read old mid new buffer given few empty still is =
     record { bytes = given.bytes; all = read_all old mid new given.bytes given.lost empty still; short = let same = given.is in omega (arith, same, few); is = is given.bytes given.taken }
+
+-- what comes of a source at its end: the job or the refusal of all its bytes, or memory is wanted
+pub reads_job : (result : Result (Result Job Refusal) InputFault) (reader : ReaderView) (number : ℕ) (old mid new : Option (List ℕ)) (buffer : List ℕ) (before now : ℕ) → now ≡ before
+    → GivesAll reader number old mid → number < 8388609 → IsEmptied mid → Loses mid new (take 0 buffer)
+    → ((bytes : List ℕ) → HasTaken reader bytes → IfOk result (λ read. read_of bytes ≡ read)) → IfErr result (λ fault. fault ≡ NoMemory) → ReadsJob result old new before now
+reads_job (Ok read) reader number old mid new buffer before now same given few empty still exact memory = (same, read_from reader number read old mid new buffer given few empty still exact)
+reads_job (Err fault) reader number old mid new buffer before now same given few empty still exact memory =
+    subst (λ (f : InputFault). ReadsJob (Err f) old new before now) (sym memory) same
 
 -- what is written of an input as it was read is what it calls for
 pub read_writes : (read : Result JobView Refusal) (left after old new : Option (List ℕ)) (status : Status) (from : IsReadFrom read left after)

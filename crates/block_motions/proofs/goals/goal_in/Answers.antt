@@ -15,7 +15,7 @@ through_change : (h : ConditionsView) (axis : ℕ) (p : Programmed) → model.is
 through_change h axis p is = cond-true (model.is_change h p.measure) _ _ is
 
 through_place : (h : ConditionsView) (axis : ℕ) (p : Programmed) → model.is_change h p.measure ≡ false
-    → model.goal_through h axis p ≡ model.position_at (model.place_of h axis (model.twice_of h axis p))
+    → model.goal_through h axis p ≡ model.lengthened (h.length (model.slot_of h axis)) (model.position_at (model.place_of h axis (model.twice_of h axis p)))
 through_place h axis p is = cond-false (model.is_change h p.measure) _ _ is
 
 pub returns-then-change : goal.returns-then-change
@@ -31,12 +31,18 @@ returns-then-change c h are composed =
 pub returns-else-change : goal.returns-else-change
 returns-else-change c h are composed =
     let stays : model.is_change h c.args.programmed.measure ≡ false = sym (c.is_change-change.ensures h are) ∙ c.if-change.false in
+    let slot : c.slot_of-slot.result ≡ model.slot_of h c.args.axis = c.slot_of-slot.ensures.slot (model.chain_in h) composed in
     let offset : c.offset_in-offset.result ≡ model.offset_in h (model.slot_of h c.args.axis) =
-    c.offset_in-offset.ensures h are ∙ ap (λ (slot : ℕ). model.offset_in h slot) (c.slot_of.ensures.slot (model.chain_in h) composed) in
+    c.offset_in-offset.ensures h are ∙ ap (λ (slot : ℕ). model.offset_in h slot) slot in
+    let length : c.length_in.result ≡ h.length (model.slot_of h c.args.axis) = c.length_in.ensures h are ∙ ap h.length slot in
     let fits : SFits w64 c.twice_of-twice.result = search rules in
     let same = to_z-of_z w64 c.twice_of-twice.result fits in
-    c.place_through.ensures (model.chain_in h) composed
+    let place : c.place_through-place.result ≡ model.position_at (model.place_of h c.args.axis (model.twice_of h c.args.axis c.args.programmed)) =
+    c.place_through-place.ensures (model.chain_in h) composed
     ∙ ap (λ (twice : ℤ). model.position_at (end_at (mapped_point (model.chain_in h) (programmed_point (model.on_axis c.args.axis twice))) (model.slot_of h c.args.axis) c.offset_in-offset.result)) same
     ∙ ap (λ (o : ℤ). model.position_at (end_at (mapped_point (model.chain_in h) (programmed_point (model.on_axis c.args.axis c.twice_of-twice.result))) (model.slot_of h c.args.axis) o)) offset
-    ∙ ap (λ (twice : ℤ). model.position_at (model.place_of h c.args.axis twice)) (c.twice_of-twice.ensures h are)
+    ∙ ap (λ (twice : ℤ). model.position_at (model.place_of h c.args.axis twice)) (c.twice_of-twice.ensures h are) in
+    c.lengthened.ensures
+    ∙ ap (λ (l : ℤ). model.lengthened l c.place_through-place.result) length
+    ∙ ap (model.lengthened (h.length (model.slot_of h c.args.axis))) place
     ∙ sym (through_place h c.args.axis c.args.programmed stays)

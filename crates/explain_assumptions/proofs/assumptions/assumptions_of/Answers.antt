@@ -14,11 +14,11 @@ loop-number-preserved c = λ lawful.
     channel_more (channel_assumptions c.args.job.now c.args.run.now) c.loop-number.number c.loop-number.rows.items c.add_done.new.rows.items c.loop-number.auto.number
     (c.loop-number.invariant lawful)
     (two _ _ _ _ _ c.in_ok-add_said.ensures c.in_ok-add_done.ensures
-    ∙ ap (λ (rs : List Remark). c.loop-number.rows.items ++ (said_rows c.args.job.now c.loop-number.number rs ++ done_rows c.as_slice-movers.result.now c.loop-number.number rs))
+    ∙ ap (λ (rs : List Remark). c.loop-number.rows.items ++ (said_rows c.args.job.now c.loop-number.number rs ++ done_rows c.args.job.now c.as_slice-movers.result.now c.loop-number.number rs))
     (c.as_slice-remarks.ensures.value ∙ c.in_ok-list.ensures lawful)
     ∙ ap (λ (ms : List (Option Mover)).
     let rs : List Remark = remarks_in_run c.args.job.now c.args.run.now c.loop-number.number in
-    c.loop-number.rows.items ++ (said_rows c.args.job.now c.loop-number.number rs ++ done_rows ms c.loop-number.number rs))
+    c.loop-number.rows.items ++ (said_rows c.args.job.now c.loop-number.number rs ++ done_rows c.args.job.now ms c.loop-number.number rs))
     (c.as_slice-movers.ensures.value ∙ c.in_ok-firsts.ensures))
 
 pub returns : goal.returns

@@ -1,6 +1,6 @@
 use Rattle.std.proofs.Common.{refl, subst, sym}
 use Rattle.channel_machine.specs.Kept.{Keeps, state_view}
-use Rattle.channel_machine.specs.Run.{channel_at_start, surroundings_of}
+use Rattle.channel_machine.specs.Run.{channel_at_start, edges_in, surroundings_of}
 use Rattle.channel_machine.specs.declared.local.State.{State}
 use Rattle.channel_machine.proofs.local.Local.start.Goals as goal
 
@@ -14,6 +14,7 @@ returns-clause-kept c =
       parameters = c.in_ok-new.ensures;
       modal = c.start.ensures;
       frame = c.empty.ensures;
+      tool = c.nothing.ensures (edges_in surroundings);
       at = λ axis. refl;
       slots = c.own_axes.ensures.slots;
       axes = c.own_axes.ensures.owned;
